@@ -1,0 +1,4 @@
+pub mod Rows
+pub mod Inwards
+pub mod Counts
+pub mod Growing

@@ -1,0 +1,85 @@
+use Prim.Native.Nat.{_<_, _≤_, suc}
+use mathlib.Core.Path.{_≡_, refl, sym, ap, subst, _∙_}
+use mathlib.Core.List.{map, _++_, _∷_, []}
+use mathlib.Core.Bool.{true, cond}
+use lib.ListN.{length, getD, set}
+use native.Mathlib.Omega.{arith}
+use Rattle.std.specs.Of.Vec.{vec-items}
+use Rattle.std.specs.declared.option.Option.the-variants.{Some, None}
+use Rattle.std.proofs.shelf.Lists.{length-map, getD-map, map-set, map-push}
+use Rattle.indexes.specs.Meaning.{Lead, held, apart, leading}
+use Rattle.indexes.specs.Records.{lead-of}
+use Rattle.indexes.proofs.Maps.{held-set, apart-set, held-push, apart-push, held-at}
+use Rattle.indexes.proofs.Refusing.{refused-full, taken-held, taken-new}
+use Rattle.indexes.proofs.plain.calls.PlainIndex.enter.Needs as need
+
+pub index-mut-requires : need.index-mut-requires
+index-mut-requires c κs = omega (arith, c .in-Some-place .ensures tt .within, length-map (vec-items (c .args .self .now .records)) lead-of)
+
+pub ghost-self : need.ghost-self
+ghost-self c =
+    let xs = vec-items (c .args .self .now .records) in
+    let i = c .in-Some-place .i in
+    let r = c .index-mut .result .now in
+    let s = c .in-Some-place .ensures tt in
+    let l : i < length xs = omega (arith, s .within, length-map xs lead-of) in
+    let n = c .lead-to .last .self in
+    let e : lead-of r ≡ getD (map lead-of xs) i (lead-of r) = ap lead-of (c .index-mut .ensures .value) ∙ sym (getD-map lead-of xs i r (lead-of r) l) in
+    let po = ap (λ x. x .op) (c .lead-to .ensures) ∙ ap (λ x. x .op) e in
+    let pr = ap (λ x. x .row) (c .lead-to .ensures) ∙ ap (λ x. x .row) e in (
+      c .args .self .now .room,
+      (
+        c .args .self .now .short,
+        (ap apart (map-set lead-of xs i n) ∙ apart-set (map lead-of xs) _ _ i s (lead-of r) (lead-of n) po pr (c .args .self .now .once), tt),
+      ),
+    )
+
+pub returns-in-Some-place : need.returns-in-Some-place
+returns-in-Some-place c =
+    let xs = vec-items (c .args .self .now .records) in
+    let i = c .in-Some-place .i in
+    let r = c .index-mut .result .now in
+    let s = c .in-Some-place .ensures tt in
+    let l : i < length xs = omega (arith, s .within, length-map xs lead-of) in
+    let n = c .lead-to .last .self in
+    let e : lead-of r ≡ getD (map lead-of xs) i (lead-of r) = ap lead-of (c .index-mut .ensures .value) ∙ sym (getD-map lead-of xs i r (lead-of r) l) in
+    let po = ap (λ x. x .op) (c .lead-to .ensures) ∙ ap (λ x. x .op) e in
+    let pr = ap (λ x. x .row) (c .lead-to .ensures) ∙ ap (λ x. x .row) e in
+    record {
+      answer = sym (taken-held (map lead-of xs) (c .args .op) (c .args .row .now) _ (c .in-Some .ensures tt .1) (held-at (map lead-of xs) _ _ i s (lead-of r)));
+      after = λ q v. ap (λ es. held es q v) (map-set lead-of xs i n)
+          ∙ held-set (map lead-of xs) _ _ i s (lead-of r) (lead-of n) po pr q v
+          ∙ ap (λ p. leading (held (map lead-of xs)) (c .args .op) (c .args .row .now) (Some p) q v) (ap (λ x. x .picture) (c .lead-to .ensures));
+    }
+
+pub returns-then-len-ge1024 : need.returns-then-len-ge1024
+returns-then-len-ge1024 c =
+    let xs = vec-items (c .args .self .now .records) in
+    record {
+      answer = sym (refused-full (map lead-of xs) (c .args .op) (c .args .row .now) (c .in-Some .ensures tt .1) (simp length-map (omega (arith, c .len .ensures))) (c .in-None .ensures tt));
+      after = λ q v. refl;
+    }
+
+pub ghost-self-in-None : need.ghost-self-in-None
+ghost-self-in-None c =
+    let xs = vec-items (c .args .self .now .records) in
+    let n = c .new-in-None .result in
+    let is = c .new-in-None .ensures ∙ ap (λ w. record { op = c .args .op; row = w; picture = c .args .picture }) (c .in-Some .ensures tt .0) in
+    let e = ap (map lead-of) (c .push-reserved .ensures .items) ∙ map-push lead-of xs n in
+    let a : held (map lead-of xs) (lead-of n .op) (lead-of n .row) ≡ None =
+    ap (λ x. held (map lead-of xs) (x .op) (x .row)) is ∙ c .in-None .ensures tt in
+    (omega arith, (omega arith, (ap apart e ∙ apart-push (map lead-of xs) (lead-of n) a (c .args .self .now .once), tt)))
+
+pub returns-else-len-ge1024 : need.returns-else-len-ge1024
+returns-else-len-ge1024 c =
+    let xs = vec-items (c .args .self .now .records) in
+    let n = c .new-in-None .result in
+    let is = c .new-in-None .ensures ∙ ap (λ w. record { op = c .args .op; row = w; picture = c .args .picture }) (c .in-Some .ensures tt .0) in
+    let e = ap (map lead-of) (c .push-reserved .ensures .items) ∙ map-push lead-of xs n in
+    let a : held (map lead-of xs) (lead-of n .op) (lead-of n .row) ≡ None =
+    ap (λ x. held (map lead-of xs) (x .op) (x .row)) is ∙ c .in-None .ensures tt in
+    record {
+      answer = sym (taken-new (map lead-of xs) (c .args .op) (c .args .row .now) (c .in-Some .ensures tt .1) (simp length-map (omega (arith, c .len .ensures))));
+      after = λ q v. ap (λ es. held es q v) e ∙ held-push (map lead-of xs) (lead-of n) a q v
+          ∙ ap (λ x. leading (held (map lead-of xs)) (x .op) (x .row) (Some (x .picture)) q v) is;
+    }
