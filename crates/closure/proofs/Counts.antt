@@ -11,6 +11,7 @@ use Rattle.std.proofs.shelf.Lists.{map-id}
 use Rattle.std.proofs.shelf.Counted.{map-counting-more}
 use Rattle.std.specs.Iters.{counting}
 use Rattle.keepers.specs.Meaning.{rep, Within, Settled, Unites, moved, ends, class-count}
+use Rattle.keepers.proofs.ClassCounts.{classes-few}
 use Rattle.keepers.proofs.Drops.{fewer}
 use Rattle.keepers.proofs.Reps.{united-length}
 use Rattle.closure.specs.declared.journal.Join.{Join}
@@ -42,15 +43,8 @@ apart-room j n rs s a b =
 pub progress-ready : (P : List Picture) (rs rs′ : List ℕ) (j j′ : ℕ) → Progress rs rs′ j j′ → Ready rs P → Ready rs′ P
 progress-ready P rs rs′ j j′ p r = record { counted = p .counted ∙ r .counted; few = r .few; fed = r .fed }
 
--- there are no more classes than pictures
-ends-few : (rs : List ℕ) (m : ℕ) → ends rs m ≤ m
-ends-few rs zero = omega arith
-ends-few rs (suc m) =
-    let i = ends-few rs m in
-    elim (eqb (rep rs (suc m)) (suc m)) as (λ b. ends rs m + cond b 1 0 ≤ suc m) [ true ↦ omega arith | false ↦ omega arith ]
-
 pub booked-none : (rs : List ℕ) (n : ℕ) → n ≡ 0 → Booked rs n
-booked-none rs n e = let f = ends-few rs (length rs) in omega arith
+booked-none rs n e = let f = classes-few rs in omega arith
 
 -- one number more
 pub counting-more : (n : ℕ) → counting 1 (n + 1) ≡ counting 1 n ++ (n + 1) ∷ []

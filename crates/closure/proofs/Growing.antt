@@ -12,7 +12,7 @@ use Rattle.std.specs.declared.option.Option.{Option}
 use Rattle.std.proofs.shelf.Elements.{all-push, all-weaker}
 use Rattle.std.proofs.shelf.Lists.{length-push}
 use Rattle.keepers.specs.Meaning.{Upto, rep, ends, class-count}
-use Rattle.keepers.proofs.Reps.{rep-old}
+use Rattle.keepers.proofs.ClassCounts.{classes-push}
 use Rattle.indexes.specs.Rows.{cells-of}
 use Rattle.closure.specs.declared.picture.Picture.{Picture}
 use Rattle.closure.specs.Working.{Ready, Fed, Inward, Booked}
@@ -39,24 +39,8 @@ grown-ready rs rs′ P P′ p x r l er eP f =
 pub grown-inward : (n n′ : ℕ) (m : ℕ → List ℕ → Option ℕ) → n ≤ n′ → Inward n m → Inward n′ m
 grown-inward n n′ m le h o w q e = upto-more n n′ le q (h o w q e)
 
--- the classes of the earlier pictures are as many as before
-old-ends : (rs : List ℕ) (x m : ℕ) → m ≤ length rs → ends (rs ++ x ∷ []) m ≡ ends rs m
-old-ends rs x zero le = refl
-old-ends rs x (suc m) le =
-    let i = old-ends rs x m (omega arith) in
-    let e : cond {A = ℕ} (eqb (rep (rs ++ x ∷ []) (suc m)) (suc m)) 1 0 ≡ cond {A = ℕ} (eqb (rep rs (suc m)) (suc m)) 1 0
-    = ap (λ (v : ℕ). cond {A = ℕ} (eqb v (suc m)) 1 0) (rep-old rs x (suc m) (omega arith, le)) in
-    omega arith
-
-one-more : (b : Bool) (n : ℕ) → n + cond b 1 0 ≤ suc n
-one-more true n = omega arith
-one-more false n = omega arith
-
 pub grown-booked : (rs rs′ : List ℕ) (x j : ℕ) → rs′ ≡ rs ++ x ∷ [] → Booked rs j → Booked rs′ j
 grown-booked rs rs′ x j e b =
     let l = ap length e ∙ length-push rs x in
-    let n : ℕ = length rs in
-    let o = old-ends rs x n (omega arith) in
-    let k = one-more (eqb (rep (rs ++ x ∷ []) (suc n)) (suc n)) (ends (rs ++ x ∷ []) n) in
-    let c : class-count rs′ ≡ ends (rs ++ x ∷ []) (suc n) = ap class-count e ∙ ap (ends (rs ++ x ∷ [])) (length-push rs x ∙ add-one n) in
+    let c = classes-push rs rs′ x e in
     omega arith

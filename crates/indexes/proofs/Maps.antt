@@ -1,10 +1,9 @@
--- Laws of `held`: what one more entry, another picture, or one entry less does to the map.
-use Prim.Native.Nat.{ℕ, zero, suc, _+_, _<_, _≤_}
-use mathlib.Core.Path.{_≡_, refl, sym, ap, subst, _∙_}
-use mathlib.Core.Bool.{Bool, true, false, cond, not, _&&_}
-use mathlib.Core.Logic.{_⊎_, inl, inr}
+-- Laws of `held`: what one more entry, another picture, or one entry less does to the map. Assumes nothing.
+use Prim.Native.Nat.{ℕ, suc, _+_, _<_}
+use mathlib.Core.Path.{_≡_, refl, sym, ap, _∙_}
+use mathlib.Core.Bool.{true, false, cond, not}
+use mathlib.Core.Logic.{inl, inr}
 use mathlib.Core.List.{List, [], _∷_, _++_}
-use native.Mathlib.Omega.{arith}
 use lib.ListN.{length, getD, set, take, drop}
 use lib.Dec.{eqb}
 use borrow.Author.Needs.{needs}
@@ -13,8 +12,8 @@ use Rattle.std.specs.Orderings.{Decides}
 use Rattle.std.specs.declared.option.Option.{Option}
 use Rattle.std.specs.declared.option.Option.the-variants.{Some, None}
 use Rattle.std.proofs.shelf.Lists.{set-getD, set-split, take-more}
-use Rattle.std.proofs.shelf.Equals.{compares-decides, Compares}
-use Rattle.std.proofs.shelf.Tests.{cases-bool, cond-true, cond-false, and-parts, and-from, eqb-true, eq-eqb, not-true, true≢false}
+use Rattle.std.proofs.shelf.Equals.{compares-decides}
+use Rattle.std.proofs.shelf.Tests.{cases-bool, cond-true, cond-false, and-parts, and-from, eqb-true, eq-eqb, true≢false}
 use Rattle.indexes.specs.Meaning.{Lead, held, apart, same-row, same-signature, leading}
 use Rattle.indexes.specs.Records.{Stands}
 

@@ -8,6 +8,9 @@ ghost use Rattle.std.specs.Results.{isOk};
 ghost use Rattle.std.specs.declared.option.Option.the-variants.{Some, None};
 ghost use Rattle.indexes.specs.Meaning.{Lead, held, apart, leading, refused, enter-fault, fault-number};
 
+// How many signatures an index holds at most.
+pub const LIMIT: usize = 1024;
+
 // Why an index refuses a signature.
 #[derive(Clone, Copy, PartialEq, Eq, Debug)]
 pub enum IndexFault {

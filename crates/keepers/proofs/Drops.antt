@@ -4,12 +4,15 @@ use mathlib.Core.Logic.{_≢_, ⊎-elim}
 use mathlib.Core.Bool.{Bool, cond}
 use mathlib.Core.List.{List, map}
 use Prim.Native.Nat.{ℕ, zero, suc, _+_, _≤_}
+use native.Mathlib.Nat.{add-zero}
 use native.Mathlib.Omega.{arith}
 use lib.Dec.{eqb}
 use lib.ListN.{length}
 use Rattle.std.proofs.shelf.Lists.{length-map}
 use Rattle.std.proofs.shelf.Tests.{cases-eq, eq-eqb, ne-eqb}
-use Rattle.keepers.specs.Meaning.{Upto, rep, Within, Settled, moved, Unites, ends, class-count}
+use Rattle.keepers.specs.Meaning.{Upto, rep, Within, Settled, moved, Unites, Did, outcome-number, ends, class-count}
+use Rattle.keepers.specs.declared.keeper.Outcome.{Outcome}
+use Rattle.keepers.specs.declared.keeper.Outcome.the-variants.{Already, Merged}
 use Rattle.keepers.proofs.Reps.{rep-map, moved-hit, moved-miss}
 
 same-ends : (rs ss : List ℕ) (m : ℕ) → ((x : ℕ) → Upto m x → eqb (rep rs x) x ≡ eqb (rep ss x) x) → ends rs m ≡ ends ss m
@@ -34,7 +37,7 @@ one-less rs ss l (suc m) w fl gl h =
     omega arith)
     (cases-eq (suc m) l)
 
-moved-ends : (lost kept : ℕ) (rs : List ℕ) → Within rs lost → rep rs lost ≡ lost → rep rs kept ≡ kept → kept ≢ lost → class-count (map (moved lost kept) rs) + 1 ≡ class-count rs
+pub moved-ends : (lost kept : ℕ) (rs : List ℕ) → Within rs lost → rep rs lost ≡ lost → rep rs kept ≡ kept → kept ≢ lost → class-count (map (moved lost kept) rs) + 1 ≡ class-count rs
 moved-ends lost kept rs w el ek ne =
     let f = moved lost kept in
     let ss = map f rs in
@@ -57,3 +60,8 @@ fewer p q rs rs′ s wp wq ne u =
     (λ e. ap (λ (r : List ℕ). class-count r + 1) e ∙ moved-ends (rep rs q) (rep rs p) rs (b .0) (b .1) (a .1) ne)
     (λ e. ap (λ (r : List ℕ). class-count r + 1) e ∙ moved-ends (rep rs p) (rep rs q) rs (a .0) (a .1) (b .1) (λ z. ne (sym z)))
     u
+
+-- a join lowers the number of classes by the number that it answers
+pub lowers : (p q : ℕ) (rs rs′ : List ℕ) (o : Outcome) → Settled rs → Within rs p → Within rs q → Did p q rs rs′ o → class-count rs′ + outcome-number o ≡ class-count rs
+lowers p q rs rs′ Already s wp wq d = add-zero (class-count rs′) ∙ ap class-count (d .1)
+lowers p q rs rs′ Merged s wp wq d = fewer p q rs rs′ s wp wq (d .0) (d .1)

@@ -29,8 +29,8 @@ fn relabel_all(labels: &mut Vec<u16>, lost: u16, heir: u16)
     relabel_row(labels, lost, heir);
 }
 
-// The same in a slice.
-fn relabel_row(labels: &mut [u16], lost: u16, heir: u16)
+// Every label `lost` of a row becomes `heir`: what a join does to representatives that stand in a table.
+pub fn relabel_row(labels: &mut [u16], lost: u16, heir: u16)
     ensures { λ _. ⌜ now (labels .exit) ≡ map (moved lost heir) (now (labels .entry)) ⌝ }
 {
     for x in labels.iter_mut() {

@@ -1,10 +1,10 @@
 // Runs lists at the limits of the rules, and prints of each record how many lines it has and what its first and last lines are.
-use indexes::Plain;
-use indexes::PlainIndex;
-use keepers::Relabel;
-use keepers::RelabelKeeper;
+use indexes::Chained;
+use indexes::ChainedIndex;
+use keepers::Links;
+use keepers::LinksKeeper;
 use lists::NoMemoryError;
-use lists::printout;
+use lists::print_record;
 use std::error::AnyError;
 
 fn main(rt: LibcRuntime) -> Result<(), AnyError> {
@@ -50,7 +50,7 @@ fn newlines(rt: &LibcRuntime, n: usize) -> Result<Vec<u8>, AnyError> {
 // Prints what the record of a list has.
 fn show(rt: &LibcRuntime, name: &str, text: &[u8]) -> Result<(), AnyError> {
     let heap = rt.alloc();
-    let out = printout(heap, Relabel::new(heap)?, Plain::new(heap)?, text)?;
+    let out = print_record(heap, Links::new(heap)?, Chained::new(heap)?, text)?;
     let count = out.as_str().lines().count();
     println!(rt, "== {name}: {count} lines")?;
     for line in out.as_str().lines().take(2) {

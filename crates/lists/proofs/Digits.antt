@@ -2,18 +2,17 @@
 use mathlib.Core.Path.{_≡_, refl, sym, ap, subst, _∙_}
 use mathlib.Core.Logic.{_⊎_, inl, inr}
 use mathlib.Core.List.{List, [], _∷_, _++_}
-use Prim.Native.Nat.{ℕ, zero, suc, _+_, _-_, _*_, _^_, _≤_, _<_}
+use Prim.Native.Nat.{ℕ, _+_, _-_, _*_, _^_, _≤_, _<_}
 use native.Mathlib.Nat.{pow-suc}
 use native.Mathlib.Omega.{arith}
 use native.Mathlib.Numerals.{add-one}
 use lib.ListN.{length, getD, take, drop}
 use Rattle.std.specs.shelf.Lists.{All}
 use Rattle.std.proofs.shelf.Lists.{take-rest, take-more, drop-drop, getD-drop, getD-take, length-drop, length-take-le, length-append, take-append-drop}
-use Rattle.std.proofs.shelf.Parts.{first-rest}
 use Rattle.std.proofs.shelf.Elements.{all-more}
 use Rattle.std.proofs.shelf.Tests.{cases-lt}
 use Rattle.lists.specs.Numerals.{Longest, Bare, Closed, Took}
-use Rattle.lists.specs.Form.{Digit, Numeral, value-after, value}
+use Rattle.lists.specs.Form.{Digit, value-after, value}
 
 -- the value with one more digit
 pub value-push : (n : ℕ) (ds : List ℕ) (c : ℕ) → value-after n (ds ++ (c ∷ [])) ≡ value-after n ds * 10 + (c - 48)

@@ -1,8 +1,8 @@
 -- What the reader knows between two numbers of a line, how one more number keeps it, and what it gives at the end. Assumes nothing.
 use mathlib.Core.Path.{_≡_, refl, sym, ap, subst, _∙_}
-use mathlib.Core.Logic.{_⊎_, inl, inr}
+use mathlib.Core.Logic.{inl, inr}
 use mathlib.Core.List.{List, [], _∷_, _++_, map}
-use Prim.Native.Nat.{ℕ, zero, suc, _+_, _-_, _*_, _≤_, _<_}
+use Prim.Native.Nat.{ℕ, suc, _+_, _-_, _≤_, _<_}
 use native.Mathlib.Omega.{arith}
 use lib.ListN.{length, getD, take, drop, set}
 use Rattle.std.specs.shelf.Lists.{All}
@@ -11,18 +11,18 @@ use Rattle.std.specs.declared.result.Result.the-variants.{Ok, Err}
 use Rattle.std.specs.Results.{Cases, isOk}
 use mathlib.Core.Bool.{true, false}
 use Rattle.std.proofs.shelf.Tests.{true≢false, false≢true}
-use Rattle.std.proofs.shelf.Lists.{append-assoc, append-nil, length-append, length-push, take-more-set, map-push, take-rest}
+use Rattle.std.proofs.shelf.Lists.{append-assoc, append-nil, length-append, length-push, take-more-set, map-push}
 use Rattle.std.proofs.shelf.Parts.{first-rest}
-use Rattle.std.proofs.shelf.Elements.{all-append, all-push}
+use Rattle.std.proofs.shelf.Elements.{all-push}
 use Rattle.lists.specs.declared.fault.NumberFault.{NumberFault}
-use Rattle.lists.specs.declared.fault.NumberFault.the-variants.{Shape, Wide}
-use Rattle.lists.specs.Form.{Numeral, value, spaced, Takes, Formed, Spoiled, Narrow, TooWide, Says, Misread}
+use Rattle.lists.specs.declared.fault.NumberFault.the-variants.{Wide}
+use Rattle.lists.specs.Form.{Numeral, value, spaced, Formed, Spoiled, Narrow, Says, Misread}
 use Rattle.lists.specs.Numerals.{Bare, Closed, Took, Bounds}
 use Rattle.lists.specs.Faults.{number-fault-number, number-fault-detail}
 use Rattle.lists.proofs.Peeling.{Runs, spaced-push, spaced-append}
 use Rattle.lists.proofs.Spoiling.{spoiled-gap, spoiled-space}
 
--- the first numeral above 65,535
+-- e names the first of the numerals that is above 65,535
 pub record FirstWide (done : List (List ℕ)) (e : NumberFault) : Type 0 where
   pub before : List (List ℕ)
   pub wide : List ℕ
@@ -32,7 +32,7 @@ pub record FirstWide (done : List (List ℕ)) (e : NumberFault) : Type 0 where
   pub above : 65535 < value wide
   pub place : e ≡ Wide (1 + (length (spaced before) + 2))
 
--- the numerals done are read, in `at` bytes with the letter, and rest is left
+-- the numerals done are read, in `at` bytes with the letter, and rest is left; as long as all of them fit, the cells hold their values
 pub record Sofar (text rest : List ℕ) (len at : ℕ) (cells : List ℕ) (fits : Result (Unit {0}) NumberFault) : Type 0 where
   pub done : List (List ℕ)
   pub cut : text ≡ spaced done ++ rest
@@ -42,6 +42,7 @@ pub record Sofar (text rest : List ℕ) (len at : ℕ) (cells : List ℕ) (fits 
   pub reach : at ≡ 1 + length (spaced done)
   pub row : Cases fits (λ _. All Narrow done × (take len cells ≡ map value done)) (λ e. FirstWide done e)
 
+-- one more numeral that is closed
 pub runs-push : (done : List (List ℕ)) (d rest : List ℕ) → Runs done (32 ∷ (d ++ rest)) → Closed d rest → Runs (done ++ (d ∷ [])) rest
 runs-push [] d rest h k = (k, tt)
 runs-push (e ∷ done) d rest h k = (subst (Closed e) (sym (spaced-push done d rest)) (h .0), runs-push done d rest (h .1) k)
@@ -70,6 +71,7 @@ module _ (text rest more next : List ℕ) (len at v : ℕ) (cells : List ℕ) (f
       ap length (spaced-append (s .done) (t .ds ∷ [])) ∙ (length-append (spaced (s .done)) (32 ∷ (t .ds ++ [])) ∙ ap (λ x. length (spaced (s .done)) + suc (length x)) (append-nil (t .ds)) ∙ omega arith) in
       omega (arith, s .reach, length-more)
 
+  -- one more number is read
   grow : (cells′ : List ℕ) (fits′ : Result (Unit {0}) NumberFault) → Cases fits′ (λ _. All Narrow grown × (take (len + 1) cells′ ≡ map value grown)) (λ f. FirstWide grown f) → Sofar text next (len + 1) (at + (1 + (length more - length next))) cells′ fits′
   grow cells′ fits′ row = record {
     done = grown;
@@ -81,6 +83,7 @@ module _ (text rest more next : List ℕ) (len at v : ℕ) (cells : List ℕ) (f
     row = row;
   }
 
+  -- the first that is too wide stays the first
   first-more : (f : NumberFault) → FirstWide (s .done) f → FirstWide grown f
   first-more f w = record {
     before = w .before;
@@ -92,6 +95,7 @@ module _ (text rest more next : List ℕ) (len at v : ℕ) (cells : List ℕ) (f
     place = w .place;
   }
 
+-- one more number, which fits
 pub sofar-narrow : (text rest more next : List ℕ) (len at v : ℕ) (cells : List ℕ) (fits : Result (Unit {0}) NumberFault) → Sofar text rest len at cells fits → rest ≡ 32 ∷ more → Took more v next →
     v ≤ 65535 → len < length cells → Sofar text next (len + 1) (at + (1 + (length more - length next))) (set cells len v) fits
 sofar-narrow text rest more next len at v cells (Ok u) s e t small fit =
@@ -102,6 +106,7 @@ sofar-narrow text rest more next len at v cells (Ok u) s e t small fit =
 sofar-narrow text rest more next len at v cells (Err f) s e t small fit =
     grow text rest more next len at v cells (Err f) s e t (set cells len v) (Err f) (first-more text rest more next len at v cells (Err f) s e t f (s .row))
 
+-- the first number that does not fit
 pub sofar-first : (text rest more next : List ℕ) (len at v : ℕ) (cells : List ℕ) (fits : Result (Unit {0}) NumberFault) → Sofar text rest len at cells fits → rest ≡ 32 ∷ more → Took more v next →
     65535 < v → isOk fits ≡ true → Sofar text next (len + 1) (at + (1 + (length more - length next))) cells (Err (Wide (at + 2)))
 sofar-first text rest more next len at v cells (Ok u) s e t large h =
@@ -109,6 +114,7 @@ sofar-first text rest more next len at v cells (Ok u) s e t large h =
     (record { before = s .done; wide = t .ds; after = []; cut = refl; narrow = s .row .0; above = subst (λ x. 65535 < x) (t .number) large; place = ap Wide (omega (arith, s .reach)) })
 sofar-first text rest more next len at v cells (Err f) s e t large h = absurd (false≢true h)
 
+-- a later number that does not fit
 pub sofar-later : (text rest more next : List ℕ) (len at v : ℕ) (cells : List ℕ) (fits : Result (Unit {0}) NumberFault) → Sofar text rest len at cells fits → rest ≡ 32 ∷ more → Took more v next →
     isOk fits ≡ false → Sofar text next (len + 1) (at + (1 + (length more - length next))) cells fits
 sofar-later text rest more next len at v cells (Ok u) s e t h = absurd (true≢false h)
@@ -123,6 +129,7 @@ module _ (c least most : ℕ) (b : Bounds c least most) (text rest : List ℕ) (
   whole : c ∷ text ≡ c ∷ (spaced (s .done) ++ rest)
   whole = ap (λ x. c ∷ x) (s .cut)
 
+  -- after a number neither a space nor the end may come: 7
   pub ends-gap : len ≤ most → (length rest ≡ 0 → len < least) → (1 ≤ length rest → getD rest 0 0 ≡ 32 → len ≡ most) → Misread (c ∷ text) 7 (at + 1)
   ends-gap few early stuck =
       inl (
@@ -133,6 +140,7 @@ module _ (c least most : ℕ) (b : Bounds c least most) (text rest : List ℕ) (
             (λ x r e z. omega (arith, s .count, stuck (omega (arith, ap length e)) (ap (λ y. getD y 0 0) e ∙ z)))),
       )
 
+  -- after a space no digit comes: 7
   pub ends-space : (more : List ℕ) → rest ≡ 32 ∷ more → len < most → Bare more → Misread (c ∷ text) 7 (at + 2)
   ends-space more e few bare =
       inl (
@@ -141,6 +149,7 @@ module _ (c least most : ℕ) (b : Bounds c least most) (text rest : List ℕ) (
             (spoiled-space c least most b (s .done) (s .proper) (c ∷ text) more (whole ∙ ap (λ x. c ∷ (spaced (s .done) ++ x)) e) (subst (Runs (s .done)) e (s .runs)) (omega (arith, s .count)) bare),
       )
 
+  -- the whole line is read
   formed : length rest ≡ 0 → least ≤ len → len ≤ most → Formed (c ∷ text) c (s .done)
   formed e enough few = record {
     spells = whole ∙ ap (λ x. c ∷ x) (ap (λ x. spaced (s .done) ++ x) (all-nil rest e) ∙ append-nil (spaced (s .done)));
@@ -148,6 +157,7 @@ module _ (c least most : ℕ) (b : Bounds c least most) (text rest : List ℕ) (
     takes = b .to (length (s .done)) (omega (arith, s .count)) (omega (arith, s .count));
   }
 
+-- the line has the form, and a number does not fit: 8
 pub ends-wide : (c least most : ℕ) (b : Bounds c least most) (text rest : List ℕ) (len at : ℕ) (cells : List ℕ) (f : NumberFault) → Sofar text rest len at cells (Err f) → length rest ≡ 0 → least ≤ len → len ≤ most → Misread (c ∷ text) (number-fault-number f) (number-fault-detail f)
 ends-wide c least most b text rest len at cells f s e enough few =
     let w : FirstWide (s .done) f = s .row in
@@ -167,6 +177,7 @@ ends-wide c least most b text rest len at cells f s e enough few =
       },
     ))
 
+-- the line has the form, and its numbers fit
 pub ends-well : (c least most : ℕ) (b : Bounds c least most) (text rest : List ℕ) (len at : ℕ) (cells : List ℕ) (u : Unit {0}) → Sofar text rest len at cells (Ok u) → length rest ≡ 0 → least ≤ len → len ≤ most → Says (c ∷ text) c (take len cells)
 ends-well c least most b text rest len at cells u s e enough few = record {
   numerals = s .done;
@@ -175,6 +186,7 @@ ends-well c least most b text rest len at cells u s e enough few = record {
   numbers = s .row .1;
 }
 
+-- the same of equal cells and an equal fault
 pub moved : {text rest cells cells′ : List ℕ} {len at : ℕ} {fits fits′ : Result (Unit {0}) NumberFault} → Sofar text rest len at cells fits → cells′ ≡ cells → fits′ ≡ fits → Sofar text rest len at cells′ fits′
 moved {text} {rest} {cells} {cells′} {len} {at} {fits} {fits′} s e f =
     let P : List ℕ → Type 0 = λ x. Sofar text rest len at x fits′ in

@@ -1,15 +1,15 @@
 -- The place from which a line has not the form. Assumes nothing.
 use mathlib.Core.Path.{_≡_, refl, sym, ap, subst, _∙_}
-use mathlib.Core.Logic.{_⊎_, inl, inr}
+use mathlib.Core.Logic.{inl}
 use mathlib.Core.List.{List, [], _∷_, _++_}
-use Prim.Native.Nat.{ℕ, zero, suc, _+_, _-_, _*_, _≤_, _<_}
+use Prim.Native.Nat.{ℕ, zero, suc, _+_, _-_, _≤_, _<_}
 use native.Mathlib.Omega.{arith}
-use lib.ListN.{length, getD, take, drop, replicate}
+use lib.ListN.{length, take, replicate}
 use Rattle.std.specs.shelf.Lists.{All}
-use Rattle.std.proofs.shelf.Lists.{append-assoc, append-nil, length-append, length-replicate, take-at, take-append-le, length-push, take-all}
+use Rattle.std.proofs.shelf.Lists.{append-assoc, append-nil, length-append, length-replicate, take-at, length-push}
 use Rattle.std.proofs.shelf.Elements.{all-append}
-use Rattle.lists.specs.Form.{Digit, Numeral, value, spaced, Takes, Formed, Valid, Viable, Spoiled}
-use Rattle.lists.specs.Numerals.{Bare, Closed, Bounds}
+use Rattle.lists.specs.Form.{Digit, Numeral, spaced, Takes, Valid, Viable, Spoiled}
+use Rattle.lists.specs.Numerals.{Bare, Bounds}
 use Rattle.lists.proofs.Peeling.{Runs, spaced-append, peel}
 
 -- t is what is read and the rest, and what is read can go on, but not by the rest's first byte, nor end there
@@ -34,6 +34,7 @@ spoiled-at t pre (x ∷ r) q v stuck early =
       early = λ h _. omega arith;
     }
 
+-- the numeral 0
 zero-numeral : Numeral (48 ∷ [])
 zero-numeral = record { digits = ((omega arith, omega arith), tt); some = omega arith; short = omega arith; plain = λ _. refl }
 
@@ -41,6 +42,7 @@ zeros : (k : ℕ) → All Numeral (replicate k (48 ∷ []))
 zeros zero = tt
 zeros (suc k) = (zero-numeral, zeros k)
 
+-- a line that is filled up with zeros is valid
 padded : (c : ℕ) (done : List (List ℕ)) (k : ℕ) → All Numeral done → Takes c (length done + k) → Valid (c ∷ (spaced done ++ spaced (replicate k (48 ∷ []))))
 padded c done k h t = (
   c,
@@ -53,11 +55,13 @@ padded c done k h t = (
 )
 
 module _ (c least most : ℕ) (b : Bounds c least most) (done : List (List ℕ)) (hd : All Numeral done) where
+  -- a valid line goes on after the numerals
   pub viable-gap : length done ≤ most → Viable (c ∷ spaced done)
   viable-gap few =
       let k = least - length done in
       (spaced (replicate (least - length done) (48 ∷ [])), padded c done (least - length done) hd (b .to (length done + (least - length done)) (omega arith) (omega (arith, b .order))))
 
+  -- a valid line goes on after the numerals and a space
   pub viable-space : length done < most → Viable (c ∷ (spaced done ++ (32 ∷ [])))
   viable-space few =
       let k : ℕ = least - (length done + 1) in
@@ -98,15 +102,15 @@ module _ (c least most : ℕ) (b : Bounds c least most) (done : List (List ℕ))
   spoiled-gap t rest q run few early stuck =
       subst (Spoiled t) (omega arith) (spoiled-at t (c ∷ spaced done) rest q (viable-gap c least most b done hd few) never ends)
     where
-      step : (x : ℕ) (r : List ℕ) → rest ≡ x ∷ r → (ms : List (List ℕ)) (r′ : List ℕ) → x ∷ r′ ≡ spaced ms → length done + length ms ≤ most → ⊥
-      step x r e [] r′ s l = let z : _≡_ {A = ℕ} 0 1 = cc (s) in omega arith
-      step x r e (m ∷ ms) r′ s l = let z : x ≡ 32 = cc (s) in omega (arith, stuck x r e z)
+      full : (x : ℕ) (r : List ℕ) → rest ≡ x ∷ r → (ms : List (List ℕ)) (r′ : List ℕ) → x ∷ r′ ≡ spaced ms → length done + length ms ≤ most → ⊥
+      full x r e [] r′ s l = let z : _≡_ {A = ℕ} 0 1 = cc (s) in omega arith
+      full x r e (m ∷ ms) r′ s l = let z : x ≡ 32 = cc (s) in omega (arith, stuck x r e z)
 
       never : (x : ℕ) (r : List ℕ) → rest ≡ x ∷ r → Viable ((c ∷ spaced done) ++ (x ∷ [])) → ⊥
       never x r e (r′, v) =
           let w : Valid (c ∷ (spaced done ++ (x ∷ r′))) = subst (λ y. Valid (c ∷ y)) (append-assoc (spaced done) (x ∷ []) r′) v in
           let g = goes-on c least most b done hd (x ∷ r′) (runs-head done x r r′ (subst (Runs done) e run)) w in
-          step x r e (g .0) r′ (g .1) (g .4)
+          full x r e (g .0) r′ (g .1) (g .4)
 
       last : (ms : List (List ℕ)) → [] ≡ spaced ms → least ≤ length done + length ms → rest ≡ [] → ⊥
       last [] s l e = omega (arith, early e)
@@ -144,7 +148,7 @@ module _ (c least most : ℕ) (b : Bounds c least most) (done : List (List ℕ))
           let f = first (g .0) [] (g .1) (g .2) in
           not-empty (f .0) (f .1) (f .2) (f .3)
 
--- no letter
+-- the line does not begin with a letter that takes any number
 pub spoiled-letter : (t : List ℕ) → ((x : ℕ) (r : List ℕ) (n : ℕ) → t ≡ x ∷ r → Takes x n → ⊥) → Spoiled t 1
 spoiled-letter t none = spoiled-at t [] t refl (112 ∷ spaced ((48 ∷ []) ∷ []), padded 112 [] 1 tt (inl (refl, omega arith, omega arith))) never ends
   where

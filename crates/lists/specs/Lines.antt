@@ -4,6 +4,6 @@ use Prim.Native.Nat.{ℕ}
 use lib.ListN.{take}
 use Rattle.lists.specs.declared.line.Line.{Line}
 
--- its first cells
+-- the first `len` cells
 abbrev pub line-numbers : Line → List ℕ
 line-numbers l = take (l .len) (l .cells)

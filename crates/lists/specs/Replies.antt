@@ -70,6 +70,6 @@ module _ {S : Type 0} (does : S → ℕ → List ℕ → Outcome → S → Type 
     pub misread : Misread bs (line-fault-number fault) (line-fault-detail fault)
     pub still : s′ ≡ s
 
-  -- the reply to one line
+  -- the reply to one line: what its call answers, or its refusal
   abbrev pub Replies : S → List ℕ → Reply → S → Type 0
   Replies s bs r s′ = Called s bs r s′ ⊎ Unread s bs r s′

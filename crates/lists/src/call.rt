@@ -1,4 +1,3 @@
-ghost use mathlib.Core.Path.{_≡_};
 ghost use lib.ListN.{length};
 ghost use Rattle.sheets.specs.Whole.{Whole};
 ghost use Rattle.lists.specs.Form.{Takes};

@@ -1,4 +1,4 @@
-// Lists: a text of lines, each of which asks for a call on a sheet, and the printout of what the calls answer.
+// Lists: a text of lines, each of which asks for a call on a sheet, and the record of what the calls answer.
 
 // how a line is refused
 pub mod fault;
@@ -14,7 +14,7 @@ pub mod reply;
 mod call;
 // want of memory
 pub mod memory;
-// goes over the lines of a text, and prints
+// goes over the lines of a text, and prints the record
 pub mod record;
 
 pub use fault::LineFault;
@@ -25,6 +25,6 @@ pub use form::read_line;
 pub use line::Line;
 pub use memory::NoMemory;
 pub use memory::NoMemoryError;
-pub use record::printout;
+pub use record::print_record;
 pub use reply::Answer;
 pub use reply::AnswerDisplay;

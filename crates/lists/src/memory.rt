@@ -2,7 +2,7 @@ use std::alloc::AllocError;
 use std::error::Error;
 use std::fmt;
 
-// There was no memory for the sheet or for the printout.
+// There was no memory for the sheet or for the record.
 #[derive(Clone, Copy, PartialEq, Eq, Debug)]
 pub struct NoMemory;
 

@@ -19,8 +19,23 @@ use sheets::Step;
 use std::alloc::Global;
 use std::fmt::Write;
 
-// The printout of a list, on a sheet that is put together from a keeper and an index.
-pub fn printout<K: Keeper + Drop, I: Index + Drop>(
+// The longest text, in bytes.
+const LONGEST: usize = 65536;
+
+// The cells of the step table.
+const CELLS: usize = 1024;
+
+// A cell that no chain has used.
+const BLANK: Step = Step {
+    kind: 0,
+    left: 0,
+    right: 0,
+    entry: 0,
+    next: 0,
+};
+
+// The record of a list, made on a sheet that is put together from a keeper and an index: a line for each line of the text, and the number of classes.
+pub fn print_record<K: Keeper + Drop, I: Index + Drop>(
     heap: Global,
     keeper: K,
     index: I,
@@ -28,24 +43,18 @@ pub fn printout<K: Keeper + Drop, I: Index + Drop>(
 ) -> Result<String, NoMemory>
     ensures { λ r. ⌜ made r (λ s. Printout Did (Whole K·Keeper I·Index) Counts (now (text .entry)) (string-bytes s)) ⌝ }
 {
-    if text.len() > 65536 {
+    if text.len() > LONGEST {
         return Ok(String::from_str(heap, "no 9 0\n")?);
     }
     let mut sheet = Open::new(heap, keeper, index)?;
-    let mut table = vec![in heap; Step {
-        kind: 0,
-        left: 0,
-        right: 0,
-        entry: 0,
-        next: 0
-    }; 1024]?;
+    let mut table = vec![in heap; BLANK; CELLS]?;
     let mut out = answer_lines(heap, &mut sheet, table.as_mut_slice(), text)?;
     let classes = sheet.classes();
     writeln!(out, "classes {classes}")?;
     Ok(out)
 }
 
-// A line for each line of a text.
+// The lines of the record: one for each line of the text.
 fn answer_lines<K: Keeper, I: Index>(
     heap: Global,
     sheet: &mut Open<K, I>,

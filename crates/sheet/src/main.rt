@@ -1,10 +1,10 @@
-// Reads a list from standard input, and prints its printout.
-use indexes::Plain;
-use indexes::PlainIndex;
-use keepers::Relabel;
-use keepers::RelabelKeeper;
+// Reads a list from standard input, and prints its record.
+use indexes::Chained;
+use indexes::ChainedIndex;
+use keepers::Links;
+use keepers::LinksKeeper;
 use lists::NoMemoryError;
-use lists::printout;
+use lists::print_record;
 use std::error::AnyError;
 use std::io::Read;
 
@@ -12,10 +12,10 @@ fn main(rt: LibcRuntime) -> Result<(), AnyError> {
     let heap = rt.alloc();
     let mut text = Vec::new(heap);
     rt.stdin().take(65537).read_to_end(&mut text)?;
-    let out = printout(
+    let out = print_record(
         heap,
-        Relabel::new(heap)?,
-        Plain::new(heap)?,
+        Links::new(heap)?,
+        Chained::new(heap)?,
         text.as_slice(),
     )?;
     rt.write_all(out.as_bytes())?;

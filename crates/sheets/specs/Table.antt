@@ -1,10 +1,11 @@
 -- What is written into the host's step table. Assumes nothing.
-use Prim.Native.Nat.{ℕ, _+_, _≤_, _<_}
+use Prim.Native.Nat.{ℕ, _≤_, _<_}
 use mathlib.Core.Path.{_≡_}
-use mathlib.Core.Bool.{cond}
-use mathlib.Core.List.{List}
-use lib.Dec.{ltb}
+use mathlib.Core.List.{List, map}
 use lib.ListN.{length, getD}
+use Rattle.std.specs.Iters.{counting}
+use Rattle.chains.specs.Chain.{Chain}
+use Rattle.chains.specs.Thread.{next-in, first-of}
 use Rattle.closure.specs.declared.journal.Cause.{Cause}
 use Rattle.closure.specs.declared.journal.Cause.the-variants.{Entry, Twins}
 use Rattle.closure.specs.declared.journal.Join.{Join}
@@ -19,11 +20,13 @@ cell-by l r Twins next = record { kind = 2; left = l; right = r; entry = 0; next
 abbrev pub cell-of : Join → ℕ → Step
 cell-of j next = cell-by (j .left) (j .right) (j .cause) next
 
--- the cell after the one at place k, where m are written
-abbrev pub next-in : ℕ → ℕ → ℕ
-next-in m k = cond (ltb (k + 1) m) (k + 2) 0
-
--- the first i joins stand in the cells from 1 on, each leading to the next and the last to 0, and the other cells are as before
-pub record Written (joins : List Join) (before after : List Step) (i : ℕ) : Type 0 where
-  pub cells : (k : ℕ) (d : Join) (e : Step) → k < i → getD after k e ≡ cell-of (getD joins k d) (next-in (length joins) k)
+-- the first i joins stand in the cells from 1 on, and the other cells are as before
+pub record Listed (joins : List Join) (before after : List Step) (i : ℕ) : Type 0 where
+  pub cells : (k : ℕ) (d : Join) (e : Step) → k < i → getD after k e ≡ cell-of (getD joins k d) 0
   pub rest : (k : ℕ) (e : Step) → i ≤ k → getD after k e ≡ getD before k e
+
+-- the joins stand in the cells from 1 on, which are one chain in their order, and the other cells are as before
+pub record Written (joins : List Join) (before after : List Step) : Type 0 where
+  pub cells : (k : ℕ) (d : Join) (e : Step) → k < length joins → getD after k e ≡ cell-of (getD joins k d) (next-in (length joins) k)
+  pub rest : (k : ℕ) (e : Step) → length joins ≤ k → getD after k e ≡ getD before k e
+  pub path : Chain (map (λ s. s .next) after) (first-of (length joins)) (counting 1 (length joins))

@@ -1,7 +1,9 @@
 ghost use Prim.Native.Nat.{ℕ, _+_, _<_, _≤_};
 ghost use mathlib.Core.Path.{_≡_};
 ghost use lib.ListN.{length, getD};
-ghost use Rattle.sheets.specs.Table.{cell-of, Written};
+ghost use Rattle.sheets.specs.Table.{cell-of, Listed, Written};
+use chains::Linked;
+use chains::thread;
 use closure::Cause;
 use closure::Join;
 
@@ -39,14 +41,35 @@ impl Step {
     }
 }
 
-// Writes the joins into the cells 1, 2, 3 and so on of the table, each leading to the next.
+pub impl Linked for Step as StepLinked {
+    ghost after = { λ s. s .next };
+
+    ghost led = { λ s n. record { kind = s .kind; left = s .left; right = s .right; entry = s .entry; next = n } };
+
+    fn next(&self) -> u16 {
+        self.next
+    }
+
+    fn lead(&mut self, n: u16) {
+        self.next = n;
+    }
+}
+
+// Writes the joins into the cells 1, 2, 3 and so on of the table.
+fn write_steps(table: &mut [Step], joins: &[Join])
+    requires { ⌜ length (now joins) ≤ length (now table) ⌝ }
+    ensures { λ _. ⌜ Listed (now (joins .entry)) (now (table .entry)) (now (table .exit)) (length (now (joins .entry))) ⌝ }
+{
+    for i in 0..joins.len() {
+        table[i] = Step::new(&joins[i], 0);
+    }
+}
+
+// Writes the joins into the cells 1, 2, 3 and so on of the table, and chains them.
 pub fn write_chain(table: &mut [Step], joins: &[Join])
     requires { ⌜ length (now joins) ≤ length (now table) × (length (now joins) ≤ 1024) ⌝ }
-    ensures { λ _. ⌜ Written (now (joins .entry)) (now (table .entry)) (now (table .exit)) (length (now (joins .entry))) ⌝ }
+    ensures { λ _. ⌜ Written (now (joins .entry)) (now (table .entry)) (now (table .exit)) ⌝ }
 {
-    let n = joins.len();
-    for i in 0..n {
-        let next = if i + 1 < n { i as u16 + 2 } else { 0 };
-        table[i] = Step::new(&joins[i], next);
-    }
+    write_steps(table, joins);
+    let _ = thread(table, joins.len() as u16);
 }

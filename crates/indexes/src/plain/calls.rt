@@ -1,17 +1,15 @@
-ghost use Prim.Native.Nat.{ℕ, _≤_};
 ghost use mathlib.Core.Path.{_≡_};
-ghost use mathlib.Core.Bool.{Bool, true, cond};
-ghost use mathlib.Core.List.{List, [], map};
-ghost use lib.ListN.{length};
+ghost use mathlib.Core.List.{[], map};
+ghost use lib.Dec.{leb};
 ghost use Rattle.std.specs.Of.Vec.{vec-items, vec-len};
 ghost use Rattle.std.specs.Options.{Cases as BySome};
-ghost use Rattle.std.specs.Results.{isOk};
 ghost use Rattle.std.specs.Vec.{made};
 ghost use Rattle.std.specs.declared.option.Option.the-variants.{Some, None};
 ghost use Rattle.indexes.specs.Meaning.{held};
 ghost use Rattle.indexes.specs.Records.{lead-of, Stands};
 use super::super::index::Index;
 use super::super::index::IndexFault;
+use super::super::index::LIMIT;
 use super::super::record::Record;
 use super::super::row::Row;
 use super::Plain;
@@ -23,8 +21,15 @@ impl Plain {
     pub fn new(heap: Global) -> Result<Plain, AllocError>
         ensures { λ r. ⌜ made r (λ i. map lead-of (vec-items (i .records)) ≡ []) ⌝ }
     {
-        let records = Vec::with_capacity(heap, 1024)?;
+        let records = Vec::with_capacity(heap, LIMIT)?;
         Ok(Plain { records })
+    }
+
+    // Whether no signature more can be held.
+    fn full(&self) -> bool
+        ensures { λ r. ⌜ r ≡ leb 1024 (vec-len (now (self .entry) .records)) ⌝ }
+    {
+        self.records.len() >= LIMIT
     }
 
     // Where the record with a signature stands.
@@ -57,7 +62,7 @@ pub impl Index for Plain as PlainIndex {
                 Ok(())
             }
             None => {
-                if self.records.len() >= 1024 {
+                if self.full() {
                     return Err(IndexFault::Full);
                 }
                 self.records.push_reserved(Record::new(op, inputs, picture));

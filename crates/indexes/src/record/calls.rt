@@ -1,5 +1,5 @@
-ghost use Prim.Native.Nat.{ℕ, _≤_};
 ghost use mathlib.Core.Path.{_≡_};
+ghost use mathlib.Core.List.{[]};
 ghost use Rattle.indexes.specs.Meaning.{same-signature};
 ghost use Rattle.indexes.specs.Records.{lead-of};
 ghost use Rattle.indexes.specs.Rows.{cells-of};
@@ -11,6 +11,17 @@ impl Record {
         ensures { λ r. ⌜ lead-of r ≡ record { op = op; row = cells-of row; picture = picture } ⌝ }
     {
         Record { op, row, picture }
+    }
+
+    // The record of a free cell.
+    pub fn blank() -> Record
+        ensures { λ r. ⌜ lead-of r ≡ record { op = 0; row = []; picture = 0 } ⌝ }
+    {
+        Record {
+            op: 0,
+            row: Row::none(),
+            picture: 0,
+        }
     }
 
     // Whether the record has this signature.

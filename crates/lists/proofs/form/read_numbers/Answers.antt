@@ -1,6 +1,5 @@
 use borrow.Author.Needs.{needs}
-use mathlib.Core.Path.{_≡_, refl, sym, ap, subst, _∙_}
-use mathlib.Core.Logic.{inl, inr}
+use mathlib.Core.Path.{_≡_, refl, sym}
 use mathlib.Core.List.{_∷_}
 use Prim.Native.Nat.{_-_}
 use lib.ListN.{length, take, drop}

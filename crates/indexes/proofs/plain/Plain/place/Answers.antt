@@ -1,12 +1,12 @@
 use Prim.Native.Nat.{_<_, _≤_}
-use mathlib.Core.Path.{_≡_, refl, sym, ap, subst, _∙_}
+use mathlib.Core.Path.{_≡_, sym, ap, _∙_}
 use mathlib.Core.Bool.{true, false}
 use mathlib.Core.List.{map}
 use lib.ListN.{length, getD}
 use native.Mathlib.Omega.{arith}
 use Rattle.std.specs.Of.Vec.{vec-items}
-use Rattle.std.proofs.shelf.Lists.{getD-map, length-map, take-all, getD-read}
-use Rattle.indexes.specs.Meaning.{Lead, same-signature, held}
+use Rattle.std.proofs.shelf.Lists.{getD-map, length-map, take-all}
+use Rattle.indexes.specs.Meaning.{same-signature, held}
 use Rattle.indexes.specs.Records.{lead-of}
 use Rattle.indexes.proofs.Maps.{held-more}
 use Rattle.indexes.proofs.plain.Plain.place.Needs as need

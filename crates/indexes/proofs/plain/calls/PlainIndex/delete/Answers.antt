@@ -1,14 +1,10 @@
-use Prim.Native.Nat.{_<_, _≤_, suc}
-use mathlib.Core.Path.{_≡_, refl, sym, ap, subst, _∙_}
-use mathlib.Core.List.{map, _++_}
-use mathlib.Core.Bool.{true}
-use lib.ListN.{length, getD, take, drop}
+use mathlib.Core.Path.{ap, _∙_}
+use mathlib.Core.List.{map}
 use native.Mathlib.Omega.{arith}
 use Rattle.std.specs.Of.Vec.{vec-items}
-use Rattle.std.proofs.shelf.Lists.{length-map, map-append, take-map, drop-map}
-use Rattle.indexes.specs.Meaning.{Lead, held, apart}
+use Rattle.std.proofs.shelf.Lists.{length-map}
+use Rattle.indexes.specs.Meaning.{held, apart}
 use Rattle.indexes.specs.Records.{lead-of}
-use Rattle.indexes.specs.declared.record.Record.{Record}
 use Rattle.indexes.proofs.Maps.{held-less, apart-less, held-absent}
 use Rattle.indexes.proofs.Removing.{map-removed}
 use Rattle.indexes.proofs.plain.calls.PlainIndex.delete.Needs as need

@@ -1,13 +1,13 @@
-use Prim.Native.Nat.{_<_, _≤_, suc}
-use mathlib.Core.Path.{_≡_, refl, sym, ap, subst, _∙_}
-use mathlib.Core.List.{map, _++_, _∷_, []}
-use mathlib.Core.Bool.{true, cond}
-use lib.ListN.{length, getD, set}
+use Prim.Native.Nat.{_<_}
+use mathlib.Core.Path.{_≡_, refl, sym, ap, _∙_}
+use mathlib.Core.List.{map}
+use lib.ListN.{length, getD}
 use native.Mathlib.Omega.{arith}
 use Rattle.std.specs.Of.Vec.{vec-items}
 use Rattle.std.specs.declared.option.Option.the-variants.{Some, None}
 use Rattle.std.proofs.shelf.Lists.{length-map, getD-map, map-set, map-push}
-use Rattle.indexes.specs.Meaning.{Lead, held, apart, leading}
+use Rattle.std.proofs.shelf.Tests.{leb-true, leb-false}
+use Rattle.indexes.specs.Meaning.{held, apart, leading}
 use Rattle.indexes.specs.Records.{lead-of}
 use Rattle.indexes.proofs.Maps.{held-set, apart-set, held-push, apart-push, held-at}
 use Rattle.indexes.proofs.Refusing.{refused-full, taken-held, taken-new}
@@ -52,11 +52,11 @@ returns-in-Some-place c =
           ∙ ap (λ p. leading (held (map lead-of xs)) (c .args .op) (c .args .row .now) (Some p) q v) (ap (λ x. x .picture) (c .lead-to .ensures));
     }
 
-pub returns-then-len-ge1024 : need.returns-then-len-ge1024
-returns-then-len-ge1024 c =
+pub returns-then-full : need.returns-then-full
+returns-then-full c =
     let xs = vec-items (c .args .self .now .records) in
     record {
-      answer = sym (refused-full (map lead-of xs) (c .args .op) (c .args .row .now) (c .in-Some .ensures tt .1) (simp length-map (omega (arith, c .len .ensures))) (c .in-None .ensures tt));
+      answer = sym (refused-full (map lead-of xs) (c .args .op) (c .args .row .now) (c .in-Some .ensures tt .1) (simp length-map (omega (arith, leb-true 1024 _ (sym (c .full .ensures) ∙ c .if-full .taken)))) (c .in-None .ensures tt));
       after = λ q v. refl;
     }
 
@@ -68,10 +68,10 @@ ghost-self-in-None c =
     let e = ap (map lead-of) (c .push-reserved .ensures .items) ∙ map-push lead-of xs n in
     let a : held (map lead-of xs) (lead-of n .op) (lead-of n .row) ≡ None =
     ap (λ x. held (map lead-of xs) (x .op) (x .row)) is ∙ c .in-None .ensures tt in
-    (omega arith, (omega arith, (ap apart e ∙ apart-push (map lead-of xs) (lead-of n) a (c .args .self .now .once), tt)))
+    (omega arith, (omega (arith, leb-false 1024 _ (sym (c .full .ensures) ∙ c .if-full .left)), (ap apart e ∙ apart-push (map lead-of xs) (lead-of n) a (c .args .self .now .once), tt)))
 
-pub returns-else-len-ge1024 : need.returns-else-len-ge1024
-returns-else-len-ge1024 c =
+pub returns-else-full : need.returns-else-full
+returns-else-full c =
     let xs = vec-items (c .args .self .now .records) in
     let n = c .new-in-None .result in
     let is = c .new-in-None .ensures ∙ ap (λ w. record { op = c .args .op; row = w; picture = c .args .picture }) (c .in-Some .ensures tt .0) in
@@ -79,7 +79,7 @@ returns-else-len-ge1024 c =
     let a : held (map lead-of xs) (lead-of n .op) (lead-of n .row) ≡ None =
     ap (λ x. held (map lead-of xs) (x .op) (x .row)) is ∙ c .in-None .ensures tt in
     record {
-      answer = sym (taken-new (map lead-of xs) (c .args .op) (c .args .row .now) (c .in-Some .ensures tt .1) (simp length-map (omega (arith, c .len .ensures))));
+      answer = sym (taken-new (map lead-of xs) (c .args .op) (c .args .row .now) (c .in-Some .ensures tt .1) (simp length-map (omega (arith, leb-false 1024 _ (sym (c .full .ensures) ∙ c .if-full .left)))));
       after = λ q v. ap (λ es. held es q v) e ∙ held-push (map lead-of xs) (lead-of n) a q v
           ∙ ap (λ x. leading (held (map lead-of xs)) (x .op) (x .row) (Some (x .picture)) q v) is;
     }
