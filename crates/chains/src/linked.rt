@@ -11,6 +11,10 @@ pub trait Linked {
 
     law leads: { (r : Self) (n : ℕ) → after (led r n) ≡ n };
 
+    law kept: { (r : Self) → led r (after r) ≡ r };
+
+    law again: { (r : Self) (m n : ℕ) → led (led r m) n ≡ led r n };
+
     // The number of the next cell.
     fn next(&self) -> u16
         ensures { λ r. ⌜ r ≡ after (now (self .entry)) ⌝ };

@@ -19,10 +19,6 @@ abbrev pub lines : List ℕ → List (List ℕ)
 lines [] = []
 lines (b ∷ bs) = cond (eqb b 10) ([] ∷ lines bs) (glue b (lines bs))
 
--- n is the number of classes that the sheet s gives; nothing more is said of it
-abbrev pub Counts : {S : Type 0} → S → ℕ → Type 0
-Counts s n = Unit {0}
-
 module _ {S : Type 0} (does : S → ℕ → List ℕ → Outcome → S → Type 0) where
   -- the lines lead from the sheet s to s′ and print `out`: for each its reply, ended with byte 10
   abbrev pub Prints : S → List (List ℕ) → List ℕ → S → Type 0

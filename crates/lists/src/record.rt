@@ -4,9 +4,9 @@ ghost use Prim.Native.Nat.{_<_};
 ghost use lib.ListN.{length};
 ghost use Rattle.std.specs.Of.String.{string-bytes};
 ghost use Rattle.std.specs.Vec.{made};
-ghost use Rattle.sheets.specs.Whole.{Whole};
+ghost use Rattle.sheets.specs.Whole.{Whole, Fresh, Counted};
 ghost use Rattle.lists.specs.Replies.{Did};
-ghost use Rattle.lists.specs.Printouts.{lines, Prints, Counts, Printout};
+ghost use Rattle.lists.specs.Printouts.{lines, Prints, Printout};
 use crate::call::answer_line;
 use crate::memory::NoMemory;
 use crate::memory::NoMemoryFromAlloc;
@@ -41,7 +41,7 @@ pub fn print_record<K: Keeper + Drop, I: Index + Drop>(
     index: I,
     text: &[u8],
 ) -> Result<String, NoMemory>
-    ensures { λ r. ⌜ made r (λ s. Printout Did (Whole K·Keeper I·Index) Counts (now (text .entry)) (string-bytes s)) ⌝ }
+    ensures { λ r. ⌜ made r (λ s. Printout Did (Fresh K·Keeper I·Index) (Counted K·Keeper) (now (text .entry)) (string-bytes s)) ⌝ }
 {
     if text.len() > LONGEST {
         return Ok(String::from_str(heap, "no 9 0\n")?);

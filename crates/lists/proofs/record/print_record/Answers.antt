@@ -17,9 +17,9 @@ returns g c = (
     end = c .answer-lines .last .sheet;
     body = string-bytes (c .in-Continue-out .out);
     classes = c .classes-classes .result;
-    begun = c .in-Continue-sheet .ensures tt .whole;
+    begun = record { whole = c .in-Continue-sheet .ensures tt .whole; no-picture = c .in-Continue-sheet .ensures tt .empty .0; no-entry = c .in-Continue-sheet .ensures tt .empty .1 };
     each = c .in-Continue-out .ensures tt .prints;
-    counted = tt;
+    counted = c .classes-classes .ensures .answer;
     whole = search needs;
   }),
   (λ h. absurd (omega arith)),

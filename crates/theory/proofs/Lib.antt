@@ -1,0 +1,13 @@
+pub mod Values
+pub mod Closed
+pub mod Laws
+pub mod Small
+pub mod Naive
+pub mod Examples
+pub mod Runs
+pub mod Reasons
+pub mod Parts
+pub mod Slices
+pub mod Few
+pub mod Journals
+pub mod Props

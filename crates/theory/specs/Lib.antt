@@ -1,0 +1,9 @@
+pub mod Sheet
+pub mod Reasons
+pub mod Slices
+pub mod Journal
+pub mod Parts
+pub mod Statements
+pub mod Laws
+pub mod Runs
+pub mod Examples
