@@ -3,20 +3,23 @@ use mathlib.Core.Path.{_≡_, refl, sym, ap, ap₂, subst, _∙_}
 use mathlib.Core.Bool.{Bool, true, false, cond, not, _&&_, _||_}
 use mathlib.Core.Logic.{_⊎_, inl, inr, ⊎-elim}
 use mathlib.Core.List.{List, [], _∷_, _++_, map}
-use Prim.Native.Nat.{ℕ, zero, suc, _+_, _≤_, _<_}
+use Prim.Native.Nat.{ℕ, zero, suc, _+_, _-_, _≤_, _<_}
 use native.Mathlib.Omega.{arith}
 use lib.Dec.{eqb, leb}
 use lib.ListN.{length}
 use Rattle.std.specs.shelf.Lists.{All, Each}
+use Rattle.std.proofs.shelf.Elements.{all-weaker}
 use Rattle.std.proofs.shelf.Tests.{eq-eqb, eqb-true, eqb-false, leb-true, and-parts, and-from, or-cases, both-ways, not-true, not-false, cases-bool}
 use Rattle.theory.specs.Sheet.{Picture, Entry, same, differ, Reading, On, Proper, Placed, operation, inputs, Satisfies, Closure, Lowest, Counts, Classes, First, Breaks, Broken, Bears, Applies}
 use Rattle.theory.specs.Statements.{Known}
-use Rattle.theory.specs.Examples.{Line, add, take, refuse, refuse-bare, must, must-not, value, apply, Answers, examples, Examples-law}
-use Rattle.theory.specs.Reasons.{Reason, Derivation}
-use Rattle.theory.proofs.Reasons.{bare}
+use Rattle.theory.specs.Reasons.{Reason, by-entry, by-twins, Derivation, Joined-by}
+use Rattle.theory.specs.Calls.{Call, add, tell, must, why, lock, reopen, value, apply, Answer, added, joined, noted, told, explained, turned, valued, refused, contradiction, Content, empty, with-picture, with-entry, Stands, Differs, Impossible, Contradicted, Taken, Answers, after}
+use Rattle.theory.specs.Runs.{Goes, leaves}
+use Rattle.theory.specs.Examples.{Example, examples, Examples-law}
 use Rattle.theory.proofs.Closed.{c-refl, lowest-same, lowest-joins}
-use Rattle.theory.proofs.Naive.{label, eqs, upto, each?, on?, proper?, closed?, close, proper-from, lowest-label, upto-at, each-at, on-on, inputs-on, good-close, some-upto}
+use Rattle.theory.proofs.Naive.{label, eqs, upto, each?, on?, placed?, proper?, closed?, close, fresh, placed-from, proper-from, lowest-label, upto-at, each-at, on-on, inputs-on, good-close, some-upto}
 use Rattle.theory.proofs.Laws.{broken-none, locked, locked-locked, locked-satisfies}
+use Rattle.theory.proofs.Chains.{linked, chain?, shown-from}
 
 abbrev pub fit? : List Picture → List Entry → Bool
 fit? P E = proper? P E && closed? P E (close P E)
@@ -42,25 +45,103 @@ abbrev pub applies? : List Picture → List ℕ → ℕ → List ℕ → ℕ →
 applies? P L o xs v =
     upto (λ p. not (bears? P L o xs p) || eqb (label L p) v) (length P) && (eqb v 0 || not (upto (λ p. not (bears? P L o xs p)) (length P)))
 
-abbrev pub answers? : List Picture → List Entry → List Line → Bool
-answers? P E [] = true
-answers? P E (add o is n m ∷ ls) =
-    let P′ = P ++ (record { operation = o; inputs = is } ∷ []) in
-    eqb n (length P′) && (fit? P′ E && ((on? P′ n && eqb (label (close P′ E) n) m) && answers? P′ E ls))
-answers? P E (take e n j ∷ ls) =
-    let E′ = E ++ (e ∷ []) in
-    eqb n (length E′) && ((fit? P E && fit? P E′) && (each? (λ x. not (joined? (close P E′) x)) E′
-    && (eqb (countTo (close P E) (length P)) (countTo (close P E′) (length P) + j) && answers? P E′ ls)))
-answers? P E (refuse e k ∷ ls) =
-    let E′ = E ++ (e ∷ []) in
-    fit? P E′ && (first? (joined? (close P E′)) k E′ && answers? P E ls)
-answers? P E (refuse-bare e k ∷ ls) =
-    let E′ = E ++ (e ∷ []) in
-    fit? P E′ && (first? (joined? (close P E′)) k E′ && (leb (length P) 1 && answers? P E ls))
-answers? P E (must a b ∷ ls) = fit? P E && ((on? P a && (on? P b && eqb (label (close P E) a) (label (close P E) b))) && answers? P E ls)
-answers? P E (must-not a b ∷ ls) = fit? P E && (not (eqb (label (close P E) a) (label (close P E) b)) && answers? P E ls)
-answers? P E (value p v ∷ ls) = fit? P E && ((on? P p && eqb (label (close P E) p) v) && answers? P E ls)
-answers? P E (apply o xs v ∷ ls) = fit? P E && (applies? P (close P E) o xs v && answers? P E ls)
+-- THE ANSWERS, computed
+-- the number of the first element that the test holds of
+abbrev pub where? : {X : Type 0} → (X → Bool) → List X → ℕ
+where? f [] = 0
+where? f (x ∷ xs) = cond (f x) 1 (suc (where? f xs))
+
+-- the two pictures of an entry, by its number
+abbrev pub left-at : ℕ → List Entry → ℕ
+left-at k [] = 0
+left-at zero (e ∷ F) = 0
+left-at (suc zero) (same a b ∷ F) = a
+left-at (suc zero) (differ a b ∷ F) = a
+left-at (suc (suc k)) (e ∷ F) = left-at (suc k) F
+
+abbrev pub right-at : ℕ → List Entry → ℕ
+right-at k [] = 0
+right-at zero (e ∷ F) = 0
+right-at (suc zero) (same a b ∷ F) = b
+right-at (suc zero) (differ a b ∷ F) = b
+right-at (suc (suc k)) (e ∷ F) = right-at (suc k) F
+
+-- the label of a picture that bears the numbers, among the first n
+abbrev pub applied : List Picture → List ℕ → ℕ → List ℕ → ℕ → ℕ
+applied P L o xs zero = 0
+applied P L o xs (suc n) = cond (bears? P L o xs (suc n)) (label L (suc n)) (applied P L o xs n)
+
+-- the chains of the entries that are refused
+abbrev pub witness : Entry → List Reason
+witness (same a b) = by-entry 1 2 2 ∷ by-twins 3 4 ∷ []
+witness (differ a b) = cond (eqb a b) [] (by-entry 2 1 1 ∷ by-twins 3 2 ∷ by-twins 4 5 ∷ [])
+
+abbrev pub told-entry : List Picture → List Entry → List ℕ → List ℕ → Entry → Answer
+told-entry P E L M (same a b) = joined (length E + 1) (countTo L (length P) - countTo M (length P))
+told-entry P E L M (differ a b) = noted (length E + 1)
+
+-- no entry is broken
+abbrev pub clear? : List ℕ → List Entry → Bool
+clear? M F = each? (λ x. not (joined? M x)) F
+
+abbrev pub reply : Content → Call → Answer
+reply s (add o is) = added (length (s .pictures) + 1) (label (close (with-picture s o is .pictures) (s .entries)) (length (s .pictures) + 1))
+reply s (tell e cells) =
+    let F = s .entries ++ (e ∷ []) in
+    let M = close (s .pictures) F in
+    cond (clear? M F) (told-entry (s .pictures) (s .entries) (close (s .pictures) (s .entries)) M e)
+    (refused (contradiction (where? (joined? M) F) (length (witness e))))
+reply s (must a b) = told (eqb (label (close (s .pictures) (s .entries)) a) (label (close (s .pictures) (s .entries)) b))
+reply s (why a b cells) = turned
+reply s lock = turned
+reply s reopen = turned
+reply s (value p) = valued (label (close (s .pictures) (s .entries)) p)
+reply s (apply o xs) = valued (applied (s .pictures) (close (s .pictures) (s .entries)) o xs (length (s .pictures)))
+
+-- THE TEST
+abbrev pub stands? : Content → Call → Bool
+stands? s (add o is) = not (s .locked)
+stands? s (tell e cells) = not (s .locked)
+stands? s (must a b) = true
+stands? s (why a b cells) = false
+stands? s lock = not (s .locked)
+stands? s reopen = s .locked
+stands? s (value p) = s .locked
+stands? s (apply o xs) = s .locked
+
+abbrev pub shown? : List Picture → List Entry → ℕ → List Reason → Bool
+shown? P F k T = chain? P F (fresh 1 P) T && eqb (label (linked (fresh 1 P) T) (left-at k F)) (label (linked (fresh 1 P) T) (right-at k F))
+
+abbrev pub entry? : List Picture → List Entry → List Entry → Entry → Bool
+entry? P E F e =
+    let M = close P F in
+    cond (clear? M F) (leb (countTo M (length P)) (countTo (close P E) (length P)))
+    (first? (joined? M) (where? (joined? M) F) F && shown? P F (where? (joined? M) F) (witness e))
+
+abbrev pub ready? : Content → Call → Bool
+ready? s (add o is) =
+    leb (length is) 4 && (each? (on? (s .pictures)) is && (leb (suc (length (s .pictures))) 1024
+    && (fit? (with-picture s o is .pictures) (s .entries) && on? (with-picture s o is .pictures) (length (s .pictures) + 1))))
+ready? s (tell e cells) =
+    leb 1024 cells && (placed? (s .pictures) e && (leb (suc (length (s .entries))) 2048
+    && (fit? (s .pictures) (s .entries) && (fit? (s .pictures) (s .entries ++ (e ∷ [])) && entry? (s .pictures) (s .entries) (s .entries ++ (e ∷ [])) e))))
+ready? s (must a b) = fit? (s .pictures) (s .entries) && (on? (s .pictures) a && on? (s .pictures) b)
+ready? s (why a b cells) = false
+ready? s lock = true
+ready? s reopen = true
+ready? s (value p) = fit? (s .pictures) (s .entries) && on? (s .pictures) p
+ready? s (apply o xs) =
+    leb (length xs) 4 && (fit? (s .pictures) (s .entries)
+    && applies? (s .pictures) (close (s .pictures) (s .entries)) o xs (applied (s .pictures) (close (s .pictures) (s .entries)) o xs (length (s .pictures))))
+
+-- the run of these calls, and whether the test passes all along
+abbrev pub made : Content → List Call → List (Call × Answer)
+made s [] = []
+made s (c ∷ cs) = (c, reply s c) ∷ made (after s c (reply s c)) cs
+
+abbrev pub goes? : Content → List Call → Bool
+goes? s [] = fit? (s .pictures) (s .entries)
+goes? s (c ∷ cs) = stands? s c && (ready? s c && goes? (after s c (reply s c)) cs)
 
 -- WHERE THE TEST PASSES
 not-each : {X : Type 0} (f : X → Bool) (Q : X → Type 0) → ((x : X) → f x ≡ false → ¬ Q x) → (xs : List X) → each? (λ x. not (f x)) xs ≡ true → (k : ℕ) → ¬ First Q k xs
@@ -166,59 +247,190 @@ module _ (P : List Picture) (E : List Entry) (t : fit? P E ≡ true) where
           let r = and-parts (eqb (operation P (s .0)) o) (eqs (map (label L) (inputs P (s .0))) xs) (not-false _ (s .3)) in
           n (s .0) (on, eqb-true _ _ (r .0), of-row (inputs P (s .0)) xs (inputs-on P E proper (s .0) on) (r .1))
 
-answered : (P : List Picture) (E : List Entry) (ls : List Line) → answers? P E ls ≡ true → Answers P E ls
-answered P E [] t = tt
-answered P E (add o is n m ∷ ls) t =
-    let P′ = P ++ (record { operation = o; inputs = is } ∷ []) in
-    let h = and-parts _ _ t in
-    let k = and-parts _ _ (h .1) in
-    let l = and-parts _ _ (k .1) in
-    (eqb-true _ _ (h .0), low-from P′ E (k .0) n m (l .0), answered P′ E ls (l .1))
-answered P E (take e n j ∷ ls) t =
-    let E′ = E ++ (e ∷ []) in
-    let h = and-parts _ _ t in
-    let k = and-parts _ _ (h .1) in
-    let f = and-parts (fit? P E) (fit? P E′) (k .0) in
-    let l = and-parts _ _ (k .1) in
-    let m = and-parts _ _ (l .1) in (
-      eqb-true _ _ (h .0),
-      satisfied P E′ (f .1) (l .0),
-      (countTo (close P E′) (length P), subst (λ c. Classes P E c) (eqb-true _ _ (m .0)) (classes-from P E (f .0)), classes-from P E′ (f .1)),
-      answered P E′ ls (m .1),
-    )
-answered P E (refuse e k ∷ ls) t =
-    let E′ = E ++ (e ∷ []) in
-    let h = and-parts _ _ t in
-    let l = and-parts _ _ (h .1) in
-    (none-from P E′ (h .0) k (l .0), broken-from P E′ (h .0) k (l .0), answered P E ls (l .1))
-answered P E (refuse-bare e k ∷ ls) t =
-    let E′ = E ++ (e ∷ []) in
-    let h = and-parts _ _ t in
-    let l = and-parts _ _ (h .1) in
-    let m = and-parts _ _ (l .1) in
-    (none-from P E′ (h .0) k (l .0), broken-from P E′ (h .0) k (l .0), bare P E′ (proper P E′ (h .0)) (leb-true _ _ (m .0)), answered P E ls (m .1))
-answered P E (must a b ∷ ls) t =
-    let h = and-parts _ _ t in
-    let k = and-parts _ _ (h .1) in
-    let l = and-parts (on? P a) (on? P b && eqb (label (close P E) a) (label (close P E) b)) (k .0) in
-    let m = and-parts (on? P b) (eqb (label (close P E) a) (label (close P E) b)) (l .1) in
-    (closed-from P E (h .0) a b (on-on P a (l .0)) (on-on P b (m .0)) (eqb-true _ _ (m .1)), answered P E ls (k .1))
-answered P E (must-not a b ∷ ls) t =
-    let h = and-parts _ _ t in
-    let k = and-parts _ _ (h .1) in
-    (λ c. eqb-false _ _ (not-true _ (k .0)) (same-label P E (h .0) a b c), answered P E ls (k .1))
-answered P E (value p v ∷ ls) t =
-    let h = and-parts _ _ t in
-    let k = and-parts _ _ (h .1) in
-    (low-from P E (h .0) p v (k .0), answered P E ls (k .1))
-answered P E (apply o xs v ∷ ls) t =
-    let h = and-parts _ _ t in
-    let k = and-parts _ _ (h .1) in
-    (applies-from P E (h .0) o xs v (k .0), answered P E ls (k .1))
+-- AN ANSWER IS RIGHT
+stood : (s : Content) (c : Call) → stands? s c ≡ true → Stands s c
+stood s (add o is) t = not-true _ t
+stood s (tell e cells) t = not-true _ t
+stood s (must a b) t = tt
+stood s (why a b cells) t = tt
+stood s lock t = not-true _ t
+stood s reopen t = t
+stood s (value p) t = t
+stood s (apply o xs) t = t
 
-computed : each? (answers? [] []) examples ≡ true
+-- an entry that is first broken is a `differ` entry
+differs : (P : List Picture) (E F : List Entry) (k : ℕ) → First (Breaks P E) k F → Differs k F (left-at k F) (right-at k F)
+differs P E [] k h = absurd h
+differs P E (e ∷ F) zero h = absurd h
+differs P E (same a b ∷ F) (suc zero) h = absurd h
+differs P E (differ a b ∷ F) (suc zero) h = (refl, refl)
+differs P E (e ∷ F) (suc (suc k)) h = differs P E F (suc k) (h .1)
+
+-- and its pictures are on the sheet
+first-on : (P : List Picture) (E F : List Entry) (k : ℕ) → First (Breaks P E) k F → On P (left-at k F) × On P (right-at k F)
+first-on P E [] k h = absurd h
+first-on P E (e ∷ F) zero h = absurd h
+first-on P E (same a b ∷ F) (suc zero) h = absurd h
+first-on P E (differ a b ∷ F) (suc zero) h = (h .0, h .1)
+first-on P E (e ∷ F) (suc (suc k)) h = first-on P E F (suc k) (h .1)
+
+contradicted : (P : List Picture) (F : List Entry) → fit? P F ≡ true → (k : ℕ) (T : List Reason) → first? (joined? (close P F)) k F ≡ true → shown? P F k T ≡ true →
+    Contradicted P F (refused (contradiction k (length T)))
+contradicted P F t k T f h =
+    let b = broken-from P F t k f in
+    let on = first-on P F F k b in
+    let a = and-parts (chain? P F (fresh 1 P) T) (eqb (label (linked (fresh 1 P) T) (left-at k F)) (label (linked (fresh 1 P) T) (right-at k F))) h in
+    let q = shown-from P F (proper P F t) T (a .0) in
+    (k, length T, left-at k F, right-at k F, b, differs P F F k b, (T, (q .0, q .1 _ _ (on .0) (on .1) (eqb-true _ _ (a .1))), refl), refl)
+
+taken : (P : List Picture) (E : List Entry) (e : Entry) → fit? P E ≡ true → fit? P (E ++ (e ∷ [])) ≡ true →
+    leb (countTo (close P (E ++ (e ∷ []))) (length P)) (countTo (close P E) (length P)) ≡ true →
+    Taken P E e (told-entry P E (close P E) (close P (E ++ (e ∷ []))) e)
+taken P E (same a b) t u l =
+    let F = E ++ (same a b ∷ []) in
+    let n = countTo (close P E) (length P) in
+    let m = countTo (close P F) (length P) in
+    (n - m, m, subst (λ x. Classes P E x) (whole n m (leb-true _ _ l)) (classes-from P E t), classes-from P F u, refl)
+  where
+    whole : (n m : ℕ) → m ≤ n → n ≡ m + (n - m)
+    whole n m h = omega arith
+taken P E (differ a b) t u l = refl
+
+ready-add : (s : Content) (o : ℕ) (is : List ℕ) → ready? s (add o is) ≡ true → Answers 1024 s (add o is) (reply s (add o is))
+ready-add s o is t =
+    let P = with-picture s o is .pictures in
+    let d? = fit? P (s .entries) && on? P (length (s .pictures) + 1) in
+    let c? = leb (suc (length (s .pictures))) 1024 in
+    let b? = each? (on? (s .pictures)) is in
+    let a = and-parts (leb (length is) 4) (b? && (c? && d?)) t in
+    let b = and-parts b? (c? && d?) (a .1) in
+    let c = and-parts c? d? (b .1) in
+    let d = and-parts (fit? P (s .entries)) (on? P (length (s .pictures) + 1)) (c .1) in
+    let few = leb-true (length is) 4 (a .0) in
+    let room = leb-true (suc (length (s .pictures))) 1024 (c .0) in
+    inr (
+      (λ l. omega (arith, few)),
+      inr (
+        (λ n. n (each-at (on? (s .pictures)) (On (s .pictures)) (on-on (s .pictures)) is (b .0))),
+        inr (
+          (λ f. ⊎-elim (λ l. omega (arith, room)) (λ l. omega (arith, room)) f),
+          (_, lows (with-picture s o is .pictures) (s .entries) (d .0) (length (s .pictures) + 1) (on-on _ _ (d .1)), refl),
+        ),
+      ),
+    )
+
+ready-tell : (s : Content) (e : Entry) (cells : ℕ) → ready? s (tell e cells) ≡ true → Answers 1024 s (tell e cells) (reply s (tell e cells))
+ready-tell s e cells t =
+    let d? = fit? P E && (fit? P F && entry? P E F e) in
+    let c? = leb (suc (length E)) 2048 in
+    let a = and-parts (leb 1024 cells) (placed? P e && (c? && d?)) t in
+    let b = and-parts (placed? P e) (c? && d?) (a .1) in
+    let c = and-parts c? d? (b .1) in
+    let d = and-parts (fit? P E) (fit? P F && entry? P E F e) (c .1) in
+    let f = and-parts (fit? P F) (entry? P E F e) (d .1) in
+    let enough = leb-true 1024 cells (a .0) in
+    let room = leb-true (suc (length E)) 2048 (c .0) in
+    inr (
+      (λ l. omega (arith, enough)),
+      inr (
+        (λ n. n (placed-from (s .pictures) e (b .0))),
+        inr (
+          (λ l. omega (arith, room)),
+          decided (d .0) (f .0) (clear? M F) refl (f .1),
+        ),
+      ),
+    )
+  where
+    P : List Picture
+    P = s .pictures
+
+    E : List Entry
+    E = s .entries
+
+    F : List Entry
+    F = E ++ (e ∷ [])
+
+    M : List ℕ
+    M = close P F
+
+    k : ℕ
+    k = where? (joined? M) F
+
+    decided : fit? P E ≡ true → fit? P F ≡ true → (v : Bool) → clear? M F ≡ v →
+        cond v (leb (countTo M (length P)) (countTo (close P E) (length P))) (first? (joined? M) k F && shown? P F k (witness e)) ≡ true →
+        let r = cond v (told-entry P E (close P E) M e) (refused (contradiction k (length (witness e)))) in
+        (Impossible s e × Contradicted P F r) ⊎ ((¬ Impossible s e) × Taken P E e r)
+    decided u w true c h = let q = satisfied P F w c in inr ((λ n. n (q .0) (q .1)), taken P E e u w h)
+    decided u w false c h =
+        let q = and-parts (first? (joined? M) k F) (shown? P F k (witness e)) h in
+        inl (none-from P F w k (q .0), contradicted P F w k (witness e) (q .0) (q .1))
+
+ready-must : (s : Content) (a b : ℕ) → ready? s (must a b) ≡ true → Answers 1024 s (must a b) (reply s (must a b))
+ready-must s a b t =
+    let h = and-parts (fit? P E) (on? P a && on? P b) t in
+    let o = and-parts (on? P a) (on? P b) (h .1) in
+    let oa = on-on P a (o .0) in
+    let ob = on-on P b (o .1) in
+    inr ((λ n. n (oa, ob)), decided (h .0) oa ob (eqb (label L a) (label L b)) refl)
+  where
+    P : List Picture
+    P = s .pictures
+
+    E : List Entry
+    E = s .entries
+
+    L : List ℕ
+    L = close P E
+
+    decided : fit? P E ≡ true → On P a → On P b → (v : Bool) → eqb (label L a) (label L b) ≡ v →
+        (Closure P E a b × (told v ≡ told true)) ⊎ ((¬ Closure P E a b) × (told v ≡ told false))
+    decided u oa ob true e = inl (closed-from P E u a b oa ob (eqb-true _ _ e), refl)
+    decided u oa ob false e = inr ((λ c. eqb-false _ _ e (same-label P E u a b c)), refl)
+
+ready : (s : Content) (c : Call) → ready? s c ≡ true → Answers 1024 s c (reply s c)
+ready s (add o is) t = ready-add s o is t
+ready s (tell e cells) t = ready-tell s e cells t
+ready s (must a b) t = ready-must s a b t
+ready s (why a b cells) t = absurd (both-ways false refl t)
+ready s lock t = refl
+ready s reopen t = refl
+ready s (value p) t =
+    let h = and-parts _ _ t in
+    let on = on-on _ _ (h .1) in
+    inr ((λ n. n on), (_, lows (s .pictures) (s .entries) (h .0) p on, refl))
+ready s (apply o xs) t =
+    let h = and-parts _ _ t in
+    let k = and-parts _ _ (h .1) in
+    let few = leb-true (length xs) 4 (h .0) in
+    inr ((λ l. omega (arith, few)), (_, applies-from (s .pictures) (s .entries) (k .0) o xs _ (k .1), refl))
+
+gone : (s : Content) (cs : List Call) → goes? s cs ≡ true → Goes 1024 s (made s cs) × (let z = leaves s (made s cs) in fit? (z .pictures) (z .entries) ≡ true)
+gone s [] t = (tt, t)
+gone s (c ∷ cs) t =
+    let a = and-parts (stands? s c) (ready? s c && goes? (after s c (reply s c)) cs) t in
+    let b = and-parts (ready? s c) (goes? (after s c (reply s c)) cs) (a .1) in
+    let g = gone (after s c (reply s c)) cs (b .1) in
+    ((stood s c (a .0), ready s c (b .0), g .0), g .1)
+
+-- THE TABLE
+abbrev calls : Example → List Call
+calls x = map (λ c. c .0) (x .log)
+
+-- the test passes, and the computed answers and classes are those of the table
+abbrev Computed : Example → Type 0
+Computed x =
+    let s = leaves empty (made empty (calls x)) in
+    (goes? empty (calls x) ≡ true) × (made empty (calls x) ≡ x .log) × (countTo (close (s .pictures) (s .entries)) (length (s .pictures)) ≡ x .classes)
+
+computed : All Computed examples
 unfolding examples
-computed = refl
+computed = ((refl, refl, refl), ((refl, refl, refl), ((refl, refl, refl), ((refl, refl, refl), ((refl, refl, refl), ((refl, refl, refl), ((refl, refl, refl), ((refl, refl, refl), ((refl, refl, refl), tt)))))))))
 
 pub examples-law : Examples-law
-examples-law = each-at (answers? [] []) (Answers [] []) (answered [] []) examples computed
+examples-law = all-weaker Computed _ right examples computed
+  where
+    right : (x : Example) → Computed x → Goes 1024 empty (x .log) × (let s = leaves empty (x .log) in Classes (s .pictures) (s .entries) (x .classes))
+    right x c =
+        let g = gone empty (calls x) (c .0) in
+        subst (λ l. Goes 1024 empty l × (let s = leaves empty l in Classes (s .pictures) (s .entries) (x .classes))) (c .1)
+        (g .0, (let s = leaves empty (made empty (calls x)) in subst (λ k. Classes (s .pictures) (s .entries) k) (c .2) (classes-from (s .pictures) (s .entries) (g .1))))

@@ -10,9 +10,9 @@ use lib.ListN.{length, length-map}
 use Rattle.std.specs.shelf.Lists.{All, Each}
 use Rattle.std.proofs.shelf.Elements.{all-weaker}
 use Rattle.theory.specs.Sheet.{Picture, Entry, same, differ, Reading, On, Ordered, Placed, Proper, value, value-to, operation, inputs, Holds, Satisfies, Keeps, Is, Twins, Congruence, Closure, Lowest, First, Breaks, Broken, Bears, Applies, Locked}
-use Rattle.theory.specs.Statements.{Value-law, Known, Contradiction-law, Must-law, Locked-law}
+use Rattle.theory.specs.Statements.{Value-law, Known, Satisfiable, Contradiction-law, Must-law, Locked-law}
 use Rattle.theory.proofs.Values.{sound}
-use Rattle.theory.proofs.Naive.{known-all}
+use Rattle.theory.proofs.Settled.{known-all}
 use Rattle.theory.proofs.Closed.{c-refl, c-sym, c-trans, c-twins, c-keeps, lowest-same, lowest-joins, lowest-moves, each-joins}
 
 -- LISTS. If Q is nowhere first, it is nowhere
@@ -90,7 +90,7 @@ module _ (P : List Picture) (E : List Entry) (w : Proper P E) where
     pub locked-satisfies : ((k : ℕ) → ¬ Broken P E k) → Satisfies r P E
     locked-satisfies n = holds E (w .1) (c-keeps P E (w .1)) (nowhere (Breaks P E) E n)
 
-dec-on : (P : List Picture) (p : ℕ) → Dec (On P p)
+pub dec-on : (P : List Picture) (p : ℕ) → Dec (On P p)
 dec-on P p = go (decLe 1 p) (decLe p (length P))
   where
     go : Dec (1 ≤ p) → Dec (p ≤ length P) → Dec (On P p)
@@ -122,7 +122,7 @@ module _ (P : List Picture) (E : List Entry) (known : Known P E) where
       go (yes a) (no b) = no (λ h. b (h .1))
       go (no a) d = no (λ h. a (h .0))
 
-  dec-closure : (a b : ℕ) → On P a → On P b → Dec (Closure P E a b)
+  pub dec-closure : (a b : ℕ) → On P a → On P b → Dec (Closure P E a b)
   dec-closure a b oa ob = go (ℕ-discrete (known a oa .0) (known b ob .0))
     where
       go : Dec (known a oa .0 ≡ known b ob .0) → Dec (Closure P E a b)
@@ -193,8 +193,12 @@ contradiction-law P E w = (λ h. go h (find (Breaks P E) E (dec-joined P E known
     go h (inl kb) = kb
     go h (inr n) = absurd (h (locked P E known) (locked-satisfies P E w (locked P E known) (locked-locked P E known) n))
 
+-- entries that some reading satisfies are not broken
+unbroken : (P : List Picture) (E : List Entry) → Ordered P → Satisfiable P E → (k : ℕ) → ¬ Broken P E k
+unbroken P E o can k b = broken-none P E o k b (can .0) (can .1)
+
 pub must-law : Must-law
-must-law P E w n a b oa ob = (λ c r s. sound P E (w .0) a b c r s, λ h. back (h (locked P E known) (locked-satisfies P E w (locked P E known) (locked-locked P E known) n)))
+must-law P E w can a b oa ob = (λ c r s. sound P E (w .0) a b c r s, λ h. back (h (locked P E known) (locked-satisfies P E w (locked P E known) (locked-locked P E known) (unbroken P E (w .0) can))))
   where
     known : Known P E
     known = known-all P E w
@@ -203,8 +207,11 @@ must-law P E w n a b oa ob = (λ c r s. sound P E (w .0) a b c r s, λ h. back (
     back e = locked-joins P E w (locked P E known) (locked-locked P E known) a b oa ob e
 
 pub locked-law : Locked-law
-locked-law P E w n r l = (
-  λ p on. locked-lowest P E w r l p on,
-  locked-satisfies P E w r l n,
-  λ a b oa ob e s h. sound P E (w .0) a b (locked-joins P E w r l a b oa ob e) s h,
+locked-law P E w can = (
+  (locked P E (known-all P E w), locked-locked P E (known-all P E w)),
+  λ r l. (
+    λ p on. locked-lowest P E w r l p on,
+    locked-satisfies P E w r l (unbroken P E (w .0) can),
+    λ a b oa ob e s h. sound P E (w .0) a b (locked-joins P E w r l a b oa ob e) s h,
+  ),
 )

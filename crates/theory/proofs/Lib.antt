@@ -4,10 +4,15 @@ pub mod Laws
 pub mod Small
 pub mod Naive
 pub mod Examples
+pub mod Growing
 pub mod Runs
+pub mod Answering
+pub mod Limits
 pub mod Reasons
 pub mod Parts
 pub mod Slices
 pub mod Few
 pub mod Journals
+pub mod Chains
+pub mod Settled
 pub mod Props

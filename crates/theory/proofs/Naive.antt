@@ -131,17 +131,17 @@ ordered-at P p h =
     let k = and-parts (leb (length (inputs P p)) 4) (each? (λ i. leb 1 i && leb (suc i) p) (inputs P p)) h in
     (leb-true _ 4 (k .0), each-at (λ i. leb 1 i && leb (suc i) p) (λ i. (1 ≤ i) × (i < p)) (earlier-at p) (inputs P p) (k .1))
 
-pub proper-from : (P : List Picture) (E : List Entry) → proper? P E ≡ true → Proper P E
-proper-from P E t = (ord, each-at (placed? P) (Placed P) pl E (and-parts _ _ t .1))
-  where
-    pl : (e : Entry) → placed? P e ≡ true → Placed P e
-    pl (same a b) h = (on-on P a (and-parts _ _ h .0), on-on P b (and-parts _ _ h .1))
-    pl (differ a b) h = (on-on P a (and-parts _ _ h .0), on-on P b (and-parts _ _ h .1))
+pub placed-from : (P : List Picture) (e : Entry) → placed? P e ≡ true → Placed P e
+placed-from P (same a b) h = (on-on P a (and-parts _ _ h .0), on-on P b (and-parts _ _ h .1))
+placed-from P (differ a b) h = (on-on P a (and-parts _ _ h .0), on-on P b (and-parts _ _ h .1))
 
+pub proper-from : (P : List Picture) (E : List Entry) → proper? P E ≡ true → Proper P E
+proper-from P E t = (ord, each-at (placed? P) (Placed P) (placed-from P) E (and-parts _ _ t .1))
+  where
     ord : Ordered P
     ord p on = ordered-at P p (upto-at (ordered? P) (length P) (and-parts (upto (ordered? P) (length P)) (each? (placed? P) E) t .0) p (on .0) (on .1))
 
-length-fresh : (k : ℕ) (P : List Picture) → length (fresh k P) ≡ length P
+pub length-fresh : (k : ℕ) (P : List Picture) → length (fresh k P) ≡ length P
 length-fresh k [] = refl
 length-fresh k (p ∷ P) = ap suc (length-fresh (suc k) P)
 
@@ -150,7 +150,7 @@ fresh-at k [] i h = absurd (omega arith)
 fresh-at k (p ∷ P) zero h = omega arith
 fresh-at k (p ∷ P) (suc i) h = fresh-at (suc k) P i (omega arith) ∙ omega arith
 
-label-fresh : (P : List Picture) (p : ℕ) → On P p → label (fresh 1 P) p ≡ p
+pub label-fresh : (P : List Picture) (p : ℕ) → On P p → label (fresh 1 P) p ≡ p
 label-fresh P zero on = absurd (omega arith)
 label-fresh P (suc k) on = fresh-at 1 P k (omega arith) ∙ omega arith
 
@@ -159,11 +159,11 @@ module _ (P : List Picture) (E : List Entry) where
   abbrev pub Good : List ℕ → Type 0
   Good L = (length L ≡ length P) × ((a b : ℕ) → On P a → On P b → label L a ≡ label L b → Closure P E a b)
 
-  label-map : (f : ℕ → ℕ) (L : List ℕ) (p : ℕ) → length L ≡ length P → On P p → label (map f L) p ≡ f (label L p)
+  pub label-map : (f : ℕ → ℕ) (L : List ℕ) (p : ℕ) → length L ≡ length P → On P p → label (map f L) p ≡ f (label L p)
   label-map f L zero e on = absurd (omega arith)
   label-map f L (suc k) e on = getD-map f L k 0 0 (omega arith)
 
-  good-to : (L : List ℕ) (a b : ℕ) → Good L → Closure P E a b → Good (map (to (label L a) (label L b)) L)
+  pub good-to : (L : List ℕ) (a b : ℕ) → Good L → Closure P E a b → Good (map (to (label L a) (label L b)) L)
   good-to L a b g c = (
     length-map L (to u v) ∙ g .0,
     λ p q op oq e. go p q op oq (eqb (label L p) u) (eqb (label L q) u) refl refl
@@ -196,7 +196,7 @@ module _ (P : List Picture) (E : List Entry) where
   good-entries (same a b ∷ F) L k g = good-entries F (merge L a b) (k .1) (good-merge L a b g (k .0))
   good-entries (differ a b ∷ F) L k g = good-entries F L (k .1) g
 
-  same-each : (L : List ℕ) → Good L → (xs ys : List ℕ) → All (On P) xs → All (On P) ys → eqs (map (label L) xs) (map (label L) ys) ≡ true → Each (Closure P E) xs ys
+  pub same-each : (L : List ℕ) → Good L → (xs ys : List ℕ) → All (On P) xs → All (On P) ys → eqs (map (label L) xs) (map (label L) ys) ≡ true → Each (Closure P E) xs ys
   same-each L g [] [] h k e = tt
   same-each L g [] (y ∷ ys) h k e = both-ways false refl e
   same-each L g (x ∷ xs) [] h k e = both-ways false refl e
@@ -230,7 +230,7 @@ module _ (P : List Picture) (E : List Entry) where
     good-rounds zero L g = g
     good-rounds (suc k) L g = good-rounds k (outer P L (length P)) (good-outer L g (length P) (omega arith))
 
-    good-fresh : Good (fresh 1 P)
+    pub good-fresh : Good (fresh 1 P)
     good-fresh = (length-fresh 1 P, λ a b oa ob e. subst (λ q. Closure P E a q) (own a oa ∙ e′ a b oa ob e) (c-refl P E a oa))
       where
         own : (a : ℕ) → On P a → a ≡ a
@@ -299,20 +299,6 @@ module _ (P : List Picture) (E : List Entry) where
               let below : label L q ≤ q = leb-true _ _ (k .0) in
               omega arith
 
--- FOR EVERY SHEET. Each round without a congruence joins two classes, and the labels' sum falls
-abbrev total : List ℕ → ℕ
-total [] = 0
-total (x ∷ xs) = x + total xs
-
-total-le : (f : ℕ → ℕ) → ((x : ℕ) → f x ≤ x) → (xs : List ℕ) → total (map f xs) ≤ total xs
-total-le f h [] = omega arith
-total-le f h (x ∷ xs) = omega (arith, h x, total-le f h xs)
-
-total-lt : (f : ℕ → ℕ) → ((x : ℕ) → f x ≤ x) → (xs : List ℕ) (i : ℕ) → i < length xs → f (getD xs i 0) < getD xs i 0 → total (map f xs) < total xs
-total-lt f h [] i l k = absurd (omega arith)
-total-lt f h (x ∷ xs) zero l k = omega (arith, k, total-le f h xs)
-total-lt f h (x ∷ xs) (suc i) l k = omega (arith, h x, total-lt f h xs i (omega arith) k)
-
 pub some-upto : (f : ℕ → Bool) (n : ℕ) → upto f n ≡ false → (p : ℕ) × (1 ≤ p) × (p ≤ n) × (f p ≡ false)
 some-upto f zero t = absurd (both-ways true t refl)
 some-upto f (suc n) t = go (f (suc n)) refl (λ h. some-upto f n h)
@@ -323,137 +309,8 @@ some-upto f (suc n) t = go (f (suc n)) refl (λ h. some-upto f n h)
         let r = k (subst (λ b. (b && upto f n) ≡ false) e t) in
         (r .0, r .1, omega (arith, r .2), r .3)
 
-to-le : (u v : ℕ) → v ≤ u → (x : ℕ) → to u v x ≤ x
-to-le u v h x = go (eqb x u) refl
-  where
-    go : (b : Bool) → eqb x u ≡ b → cond b v x ≤ x
-    go true e = omega (arith, eqb-true x u e)
-    go false e = omega arith
-
-to-hit : (u v x : ℕ) → x ≡ u → to u v x ≡ v
+pub to-hit : (u v x : ℕ) → x ≡ u → to u v x ≡ v
 to-hit u v x e = ap (λ b. cond b v x) (eq-eqb x u e)
 
-to-miss : (u v x : ℕ) → (x ≡ u → ⊥) → to u v x ≡ x
+pub to-miss : (u v x : ℕ) → (x ≡ u → ⊥) → to u v x ≡ x
 to-miss u v x e = ap (λ b. cond b v x) (ne-eqb x u e)
-
-or-parts : (x y : Bool) → (x || y) ≡ false → (x ≡ false) × (y ≡ false)
-or-parts true y e = absurd (both-ways true e refl)
-or-parts false y e = (refl, e)
-
-module _ (P : List Picture) (E : List Entry) (w : Proper P E) where
-  abbrev Tidy : List ℕ → Type 0
-  Tidy L = (p : ℕ) → On P p → (1 ≤ label L p) × (label L p ≤ p) × (label L (label L p) ≡ label L p)
-
-  -- two pictures of one class that have two labels
-  abbrev Apart : List ℕ → Type 0
-  Apart L = (a : ℕ) × ((b : ℕ) × (Closure P E a b × (label L b < label L a)))
-
-  aparts : (L : List ℕ) (a b : ℕ) → Closure P E a b → (label L a ≡ label L b → ⊥) → Apart L
-  aparts L a b c n = ⊎-elim (λ e. absurd (n e)) (⊎-elim (λ l. (b, (a, (c-sym P E a b c, l)))) (λ l. (a, (b, (c, l))))) (cases-order (label L a) (label L b))
-
-  apart-entry : (L : List ℕ) (F : List Entry) → All (Keeps (Closure P E)) F → each? (kept? L) F ≡ false → Apart L
-  apart-entry L [] k t = absurd (both-ways true t refl)
-  apart-entry L (same a b ∷ F) k t =
-      ⊎-elim (λ e. aparts L a b (k .0) (eqb-false _ _ e)) (λ e. apart-entry L F (k .1) e) (and-cases (eqb (label L a) (label L b)) (each? (kept? L) F) t)
-  apart-entry L (differ a b ∷ F) k t = apart-entry L F (k .1) t
-
-  apart : (L : List ℕ) → Good P E L → Tidy L → closed? P E L ≡ false → Apart L
-  apart L g d t =
-      ⊎-elim (λ e. apart-entry L E (c-keeps P E (w .1)) e)
-      (λ e. ⊎-elim (λ l. absurd (tidy-low (some-upto (low? L) (length P) l))) (λ l. outside (some-upto (λ a. upto (twins? P L a) (length P)) (length P) l))
-      (and-cases (upto (low? L) (length P)) (upto (λ a. upto (twins? P L a) (length P)) (length P)) e))
-      (and-cases (each? (kept? L) E) (upto (low? L) (length P) && upto (λ a. upto (twins? P L a) (length P)) (length P)) t)
-    where
-      tidy-low : (p : ℕ) × (1 ≤ p) × (p ≤ length P) × (low? L p ≡ false) → ⊥
-      tidy-low s =
-          let h = d (s .0) (s .1, s .2) in
-          both-ways (low? L (s .0)) (s .3) (and-from _ _ (le-leb _ _ (h .0)) (and-from _ _ (le-leb _ _ (h .1)) (eq-eqb _ _ (h .2))))
-
-      pairs : (a b : ℕ) → On P a → On P b → twins? P L a b ≡ false → Apart L
-      pairs a b oa ob e =
-          let k = or-parts (not (twin? P L a b)) (eqb (label L a) (label L b)) e in
-          let t = and-parts (eqb (operation P a) (operation P b)) (eqs (map (label L) (inputs P a)) (map (label L) (inputs P b))) (not-false _ (k .0)) in
-          aparts L a b
-          (c-twins P E a b oa ob (eqb-true _ _ (t .0), same-each P E L g (inputs P a) (inputs P b) (inputs-on P E w a oa) (inputs-on P E w b ob) (t .1)))
-          (eqb-false _ _ (k .1))
-
-      inside : (a : ℕ) → On P a → (b : ℕ) × (1 ≤ b) × (b ≤ length P) × (twins? P L a b ≡ false) → Apart L
-      inside a oa s = pairs a (s .0) oa (s .1, s .2) (s .3)
-
-      outside : (a : ℕ) × (1 ≤ a) × (a ≤ length P) × (upto (twins? P L a) (length P) ≡ false) → Apart L
-      outside s = inside (s .0) (s .1, s .2) (some-upto (twins? P L (s .0)) (length P) (s .3))
-
-  abbrev Next : List ℕ → Type 0
-  Next L = (M : List ℕ) × (Good P E M × Tidy M × (total M < total L))
-
-  next : (L : List ℕ) → Good P E L → Tidy L → Apart L → Next L
-  next L g d s = (map (to u v) L, (good-to P E L a b g c, tidy, less a (c .0) refl))
-    where
-      a : ℕ
-      a = s .0
-
-      b : ℕ
-      b = s .1 .0
-
-      c : Closure P E a b
-      c = s .1 .1 .0
-
-      u : ℕ
-      u = label L a
-
-      v : ℕ
-      v = label L b
-
-      v<u : v < u
-      v<u = s .1 .1 .1
-
-      less : (x : ℕ) → On P x → label L x ≡ label L a → total (map (to u v) L) < total L
-      less zero on e = absurd (omega arith)
-      less (suc k) on e =
-          total-lt (to u v) (to-le u v (omega (arith, v<u))) L k (omega (arith, g .0)) (subst (λ z. z < label L (suc k)) (sym (to-hit u v _ e)) (omega (arith, v<u)))
-
-      at : (p : ℕ) → On P p → label (map (to u v) L) p ≡ to u v (label L p)
-      at p on = label-map P E (to u v) L p (g .0) on
-
-      on-label : (p : ℕ) → On P p → On P (label L p)
-      on-label p on = let h = d p on in (h .0, omega (arith, h .1))
-
-      Fine : ℕ → ℕ → Type 0
-      Fine p x = (1 ≤ x) × (x ≤ p) × (label (map (to u v) L) x ≡ x)
-
-      fine : (p : ℕ) → On P p → (t : Bool) → eqb (label L p) u ≡ t → Fine p (cond t v (label L p))
-      fine p on true e =
-          let hb = d b (c .1) in
-          let hp = d p on in (
-            hb .0,
-            omega (arith, v<u, eqb-true _ _ e, hp .1),
-            at v (on-label b (c .1)) ∙ ap (to u v) (hb .2) ∙ to-miss u v v (λ q. omega (arith, v<u)),
-          )
-      fine p on false e =
-          let hp = d p on in
-          (hp .0, hp .1, at (label L p) (on-label p on) ∙ ap (to u v) (hp .2) ∙ to-miss u v _ (eqb-false _ _ e))
-
-      tidy : Tidy (map (to u v) L)
-      tidy p on = subst (λ x. Fine p x) (sym (at p on)) (fine p on (eqb (label L p) u) refl)
-
-  settle : (fuel : ℕ) (L : List ℕ) → Good P E L → Tidy L → total L ≤ fuel → Known P E
-  settle zero L g d h = go (closed? P E L) refl
-    where
-      go : (t : Bool) → closed? P E L ≡ t → Known P E
-      go true e = λ p on. (label L p, lowest-label P E w L g e p on)
-      go false e = let s = next L g d (apart L g d e) in absurd (omega (arith, s .1 .2))
-  settle (suc k) L g d h = go (closed? P E L) refl (λ M. settle k M)
-    where
-      go : (t : Bool) → closed? P E L ≡ t → ((M : List ℕ) → Good P E M → Tidy M → total M ≤ k → Known P E) → Known P E
-      go true e r = λ p on. (label L p, lowest-label P E w L g e p on)
-      go false e r =
-          let s = next L g d (apart L g d e) in
-          r (s .0) (s .1 .0) (s .1 .1) (omega (arith, s .1 .2))
-
-  tidy-fresh : Tidy (fresh 1 P)
-  tidy-fresh p on =
-      let e = label-fresh P p on in
-      (omega (arith, e), omega (arith, e), ap (label (fresh 1 P)) e)
-
-  pub known-all : Known P E
-  known-all = settle (total (fresh 1 P)) (fresh 1 P) (good-fresh P E w) tidy-fresh (omega arith)

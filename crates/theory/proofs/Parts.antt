@@ -9,6 +9,7 @@ use native.Mathlib.Nat.{le-antisymm}
 use lib.ListN.{length}
 use Rattle.std.proofs.shelf.Tests.{cases-order}
 use Rattle.theory.specs.Sheet.{Picture, Entry, On, Closure, Lowest, Counts, Classes}
+use Rattle.theory.proofs.Small.{counts-one}
 use Rattle.theory.specs.Parts.{Leads, Parts, Joins, Join-law, Parts-law}
 
 -- facts that agree up to n have one count
@@ -20,10 +21,10 @@ counts-same Q W (suc n) h k (inr c) =
     inr ((λ w. c .0 (h (suc n) (omega arith) (omega arith) .1 w)), counts-same Q W n (λ p a b. h p a (omega arith)) k (c .1))
 
 -- and facts that differ at one number have counts that differ by one
-counts-one : (Q W : ℕ → Type 0) (x : ℕ) → Q x → ¬ W x → (n : ℕ) → 1 ≤ x → x ≤ n → ((p : ℕ) → 1 ≤ p → p ≤ n → p ≢ x → W p ↔ Q p) →
+counts-fall : (Q W : ℕ → Type 0) (x : ℕ) → Q x → ¬ W x → (n : ℕ) → 1 ≤ x → x ≤ n → ((p : ℕ) → 1 ≤ p → p ≤ n → p ≢ x → W p ↔ Q p) →
     (k : ℕ) → Counts W n k → Counts Q n (suc k)
-counts-one Q W x q w zero l u h k c = absurd (omega arith)
-counts-one Q W x q w (suc n) l u h k c = go (ℕ-discrete x (suc n)) c (λ v k′ c′. counts-one Q W x q w n l v (λ p a b. h p a (omega arith)) k′ c′)
+counts-fall Q W x q w zero l u h k c = absurd (omega arith)
+counts-fall Q W x q w (suc n) l u h k c = go (ℕ-discrete x (suc n)) c (λ v k′ c′. counts-fall Q W x q w n l v (λ p a b. h p a (omega arith)) k′ c′)
   where
     ne : (p : ℕ) → x ≡ suc n → p ≤ n → p ≢ x
     ne p e b i = omega arith
@@ -71,7 +72,7 @@ falls : (f g : ℕ → ℕ) (n a b : ℕ) → Joins f g n a b → 1 ≤ a → a 
     (s : Found f n (f a) n) (t : Found f n (f b) n) → unfold Found in (s .0 < t .0 → (k : ℕ) → Parts g n k → Parts f n (suc k))
 unfolding Found
 falls f g n a b j la ua lb ub s t lt k c =
-    counts-one (Leads f n) (Leads g n) y leads (λ w. not-leads w) n (t .1 .0) (t .1 .1) both k c
+    counts-fall (Leads f n) (Leads g n) y leads (λ w. not-leads w) n (t .1 .0) (t .1 .1) both k c
   where
     x : ℕ
     x = s .0
@@ -112,7 +113,7 @@ turned f g n a b j =
 
 pub join-law : Join-law
 unfolding Found
-join-law f g n a b la ua lb ub ne j k c = go (cases-order (s .0) (t .0))
+join-law f g n a b la ua lb ub ne j k c = let p = go (cases-order (s .0) (t .0)) in (p, λ m d. counts-one (Leads f n) n m (suc k) d p)
   where
     s : Found f n (f a) n
     s = found f n a la ua

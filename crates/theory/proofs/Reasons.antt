@@ -1,10 +1,8 @@
 -- What a chain joins is in one class. Assumes nothing.
-use mathlib.Core.Path.{_≡_, refl, subst, subst₂}
+use mathlib.Core.Path.{_≡_, subst, subst₂}
 use mathlib.Core.Bool.{Bool}
 use mathlib.Core.List.{List, [], _∷_}
-use Prim.Native.Nat.{ℕ, zero, suc, _≤_}
-use native.Mathlib.Omega.{arith}
-use lib.ListN.{length}
+use Prim.Native.Nat.{ℕ, zero, suc}
 use Rattle.std.specs.shelf.Lists.{All, Each}
 use Rattle.theory.specs.Sheet.{Picture, Entry, same, differ, On, Placed, Proper, Is, Keeps, Twins, Congruence, Closure, inputs}
 use Rattle.theory.specs.Reasons.{Reason, by-entry, by-twins, left, right, Equivalence, Joined-by, Number, Fits, Derivation, Derivation-law}
@@ -38,7 +36,7 @@ module _ (P : List Picture) (E : List Entry) (R : ℕ → ℕ → Bool) (g : Con
   held S (s ∷ T) h c = let k = fit S h s (c .0) in (k, held (s ∷ S) T (k, h) (c .2))
 
 pub chain-law : Derivation-law
-chain-law P E T c a b l = (l .0, l .1, λ R g. l .2 R (equivalence P E R g) (held P E R g [] T tt c))
+chain-law P E a b T x = let l = x .1 in (l .0, l .1, λ R g. l .2 R (equivalence P E R g) (held P E R g [] T tt (x .0)))
 
 pub number-on : (P : List Picture) (F : List Entry) → All (Placed P) F → (k l r : ℕ) → Number k F l r → On P l × On P r
 number-on P [] w k l r n = absurd n
@@ -46,18 +44,3 @@ number-on P (e ∷ F) w zero l r n = absurd n
 number-on P (same a b ∷ F) w (suc zero) l r n = (subst (λ x. On P x) (n .0) (w .0 .0), subst (λ x. On P x) (n .1) (w .0 .1))
 number-on P (differ a b ∷ F) w (suc zero) l r n = absurd n
 number-on P (e ∷ F) w (suc (suc k)) l r n = number-on P F (w .1) (suc k) l r n
-
--- on a sheet of one picture no chain has a step
-pub bare : (P : List Picture) (E : List Entry) → Proper P E → length P ≤ 1 → (T : List Reason) → Derivation P E [] T → length T ≡ 0
-bare P E w h [] c = refl
-bare P E w h (s ∷ T) c = absurd (c .1 (linked (left s) (right s) (ends s (c .0))))
-  where
-    ends : (s : Reason) → Fits P E [] s → On P (left s) × On P (right s)
-    ends (by-entry l r k) f = number-on P E (w .1) k l r f
-    ends (by-twins l r) f = (f .0, f .1)
-
-    one : (l r : ℕ) → On P l × On P r → l ≡ r
-    one l r o = omega (arith, o .0 .0, o .0 .1, o .1 .0, o .1 .1, h)
-
-    linked : (l r : ℕ) → On P l × On P r → Joined-by P [] l r
-    linked l r o = (o .0, o .1, λ R g _. subst (λ x. Is R l x) (one l r o) (g .reflexive l (o .0)))

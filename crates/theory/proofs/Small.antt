@@ -2,17 +2,17 @@
 use mathlib.Core.Path.{_≡_, refl, sym, ap, subst, _∙_}
 use mathlib.Core.Bool.{Bool}
 use mathlib.Core.Logic.{_≢_, _⊎_, inl, inr}
-use mathlib.Core.List.{List, [], _∷_}
+use mathlib.Core.List.{List, [], _∷_, _++_}
 use Prim.Native.Nat.{ℕ, zero, suc, _≤_, _<_}
 use native.Mathlib.Omega.{arith}
 use native.Mathlib.Decide.{ℕ-discrete}
 use lib.ListN.{length}
 use Rattle.std.specs.shelf.Lists.{All, Each, Has}
-use Rattle.std.proofs.shelf.Elements.{all-has}
-use Rattle.theory.specs.Sheet.{Picture, Entry, On, Placed, Proper, Closure, Lowest, Counts, Classes, Bears, Applies, inputs}
-use Rattle.theory.specs.Laws.{Closure-law, Lowest-law, Classes-law, Wide-law}
+use Rattle.std.proofs.shelf.Elements.{all-has, all-push}
+use Rattle.theory.specs.Sheet.{Picture, Entry, differ, On, Placed, Proper, Is, Keeps, Congruence, Closure, Lowest, Counts, Classes, Bears, Applies, inputs}
+use Rattle.theory.specs.Laws.{Closure-law, Lowest-law, Classes-law, Wide-law, Differ-law}
 use Rattle.theory.proofs.Closed.{c-refl, c-sym, c-trans, c-twins, c-keeps, lowest-same}
-use Rattle.theory.proofs.Naive.{known-all}
+use Rattle.theory.proofs.Settled.{known-all}
 
 pub closure-law : Closure-law
 closure-law P E w =
@@ -24,7 +24,7 @@ lowest-law P E w p on =
     (k .0, k .1, λ n l. lowest-same P E p p n (k .0) (c-refl P E p on) l (k .1))
 
 -- two counts of one property are one number
-counts-one : (Q : ℕ → Type 0) (n j k : ℕ) → Counts Q n j → Counts Q n k → j ≡ k
+pub counts-one : (Q : ℕ → Type 0) (n j k : ℕ) → Counts Q n j → Counts Q n k → j ≡ k
 counts-one Q zero j k a b = a ∙ sym b
 counts-one Q (suc n) j k (inl a) (inl b) = a .1 .1 ∙ (ap suc (counts-one Q n (a .1 .0) (b .1 .0) (a .1 .2) (b .1 .2)) ∙ sym (b .1 .1))
 counts-one Q (suc n) j k (inl a) (inr b) = absurd (b .0 (a .0))
@@ -53,11 +53,45 @@ classes-law P E w =
         go (no n) = no (λ l. n (lowest-same P E p p _ _ (c-refl P E p on) (known-all P E w p on .1) l))
 
 -- the lowest numbers of a row are numbers of pictures
-low-few : (P : List Picture) (E : List Entry) (is xs : List ℕ) → Each (Lowest P E) is xs → All (λ x. x ≤ length P) xs
+low-few : (P : List Picture) (E : List Entry) (is xs : List ℕ) → Each (Lowest P E) is xs → All (On P) xs
 low-few P E [] [] e = tt
 low-few P E [] (x ∷ xs) e = absurd e
 low-few P E (i ∷ is) [] e = tt
-low-few P E (i ∷ is) (x ∷ xs) e = (e .0 .0 .1 .1, low-few P E is xs (e .1))
+low-few P E (i ∷ is) (x ∷ xs) e = (e .0 .0 .1, low-few P E is xs (e .1))
 
 pub wide-law : Wide-law
-wide-law P E o xs v a x h l = a .1 (λ p b. let f = all-has (λ y. y ≤ length P) xs x (low-few P E (inputs P p) xs (b .2)) h in omega arith)
+wide-law P E o xs v a x h l = a .1 (λ p b. l (all-has (On P) xs x (low-few P E (inputs P p) xs (b .2)) h))
+
+-- ONE ENTRY MORE
+all-front : (Q : Entry → Type 0) (E : List Entry) (e : Entry) → All Q (E ++ (e ∷ [])) → All Q E
+all-front Q [] e a = tt
+all-front Q (x ∷ E) e a = (a .0, all-front Q E e (a .1))
+
+pub closure-more : (P : List Picture) (E : List Entry) (e : Entry) (a b : ℕ) → Closure P E a b → Closure P (E ++ (e ∷ [])) a b
+closure-more P E e a b c = (
+  c .0,
+  c .1,
+  λ R g. c .2 R (record {
+    reflexive = g .reflexive;
+    symmetric = g .symmetric;
+    transitive = g .transitive;
+    keeps = all-front (Keeps (Is R)) E e (g .keeps);
+    twins = g .twins;
+  }),
+)
+
+pub differ-law : Differ-law
+differ-law P E c d a b = (
+  closure-more P E (differ c d) a b,
+  λ h. (
+    h .0,
+    h .1,
+    λ R g. h .2 R (record {
+      reflexive = g .reflexive;
+      symmetric = g .symmetric;
+      transitive = g .transitive;
+      keeps = all-push (Keeps (Is R)) E (differ c d) (g .keeps) tt;
+      twins = g .twins;
+    }),
+  ),
+)

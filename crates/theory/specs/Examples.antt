@@ -1,60 +1,68 @@
--- Worked examples: the lines of a list with their answers, and what the rules say of them. Assumes nothing.
-use mathlib.Core.Path.{_≡_}
-use mathlib.Core.List.{List, [], _∷_, _++_}
-use Prim.Native.Nat.{ℕ, _+_}
-use lib.ListN.{length}
-use Rattle.theory.specs.Reasons.{Reason, Derivation}
+-- Worked examples: runs on a sheet whose keeper has the capacity 1,024, with the answers that the rules give. Assumes nothing.
+use mathlib.Core.Bool.{true, false}
+use mathlib.Core.List.{List, [], _∷_}
+use Prim.Native.Nat.{ℕ}
 use Rattle.std.specs.shelf.Lists.{All}
-use Rattle.theory.specs.Sheet.{Picture, Entry, same, differ, Reading, Satisfies, Closure, Lowest, Classes, Broken, Applies}
+use Rattle.theory.specs.Sheet.{Entry, same, differ, Classes}
+use Rattle.theory.specs.Calls.{Call, add, tell, must, lock, value, apply, Answer, added, joined, noted, told, turned, valued, refused, contradiction, empty}
+use Rattle.theory.specs.Runs.{Run, leaves}
 
--- a call with its answer
-pub data Line : Type 0 where
-  -- operation, inputs: number, lowest number in its class
-  add : ℕ → List ℕ → ℕ → ℕ → Line
-  -- an entry that is taken: entry number, joins
-  take : Entry → ℕ → ℕ → Line
-  -- an entry that no reading satisfies with those before: the broken entry
-  refuse : Entry → ℕ → Line
-  -- the same, where no chain has a step
-  refuse-bare : Entry → ℕ → Line
-  must must-not : ℕ → ℕ → Line
-  value : ℕ → ℕ → Line
-  apply : ℕ → List ℕ → ℕ → Line
+-- an entry told with a step table of 1,024 cells
+abbrev pub entry : Entry → Call
+entry e = tell e 1024
 
--- the lines have these answers on a sheet with these pictures and entries
-abbrev pub Answers : List Picture → List Entry → List Line → Type 0
-Answers P E [] = Unit {0}
-Answers P E (add o is n m ∷ ls) =
-    let P′ = P ++ (record { operation = o; inputs = is } ∷ []) in
-    (n ≡ length P′) × Lowest P′ E n m × Answers P′ E ls
-Answers P E (take e n j ∷ ls) =
-    let E′ = E ++ (e ∷ []) in
-    (n ≡ length E′) × ((r : Reading) × Satisfies r P E′) × ((k : ℕ) × Classes P E (k + j) × Classes P E′ k) × Answers P E′ ls
-Answers P E (refuse e k ∷ ls) =
-    ((r : Reading) → ¬ Satisfies r P (E ++ (e ∷ []))) × Broken P (E ++ (e ∷ [])) k × Answers P E ls
-Answers P E (refuse-bare e k ∷ ls) =
-    ((r : Reading) → ¬ Satisfies r P (E ++ (e ∷ []))) × Broken P (E ++ (e ∷ [])) k
-    × ((T : List Reason) → Derivation P (E ++ (e ∷ [])) [] T → length T ≡ 0) × Answers P E ls
-Answers P E (must a b ∷ ls) = Closure P E a b × Answers P E ls
-Answers P E (must-not a b ∷ ls) = (¬ Closure P E a b) × Answers P E ls
-Answers P E (value p v ∷ ls) = Lowest P E p v × Answers P E ls
-Answers P E (apply o xs v ∷ ls) = Applies P E o xs v × Answers P E ls
+-- the answer to an entry that is refused: the broken entry, and the steps of the chain
+abbrev pub broken : ℕ → ℕ → Answer
+broken k n = refused (contradiction k n)
 
-unfoldable pub examples : List (List Line)
+-- A run with the number of classes that it leaves.
+pub record Example : Type 0 where
+  pub log : List (Call × Answer)
+  pub classes : ℕ
+
+-- The nine examples. In the eighth no chain can have a step, since a chain has fewer steps than there are pictures.
+unfoldable pub examples : List Example
 examples =
-    (add 1 [] 1 1 ∷ add 2 (1 ∷ []) 2 2 ∷ add 2 (2 ∷ []) 3 3 ∷ add 3 (3 ∷ 1 ∷ []) 4 4 ∷ add 3 (1 ∷ 1 ∷ []) 5 5
-    ∷ take (same 2 1) 1 3 ∷ refuse (differ 4 5) 2 ∷ must 4 5 ∷ [])
-    ∷ (add 9 [] 1 1 ∷ add 9 [] 2 1 ∷ [])
-    ∷ (add 9 [] 1 1 ∷ add 9 (1 ∷ []) 2 2 ∷ must-not 1 2 ∷ [])
-    ∷ (add 1 [] 1 1 ∷ add 2 [] 2 2 ∷ add 3 (1 ∷ 2 ∷ []) 3 3 ∷ add 3 (2 ∷ 1 ∷ []) 4 4 ∷ must-not 3 4 ∷ take (same 1 2) 1 2 ∷ must 3 4 ∷ [])
-    ∷ (add 1 [] 1 1 ∷ add 2 [] 2 2 ∷ add 3 (1 ∷ []) 3 3 ∷ add 3 (2 ∷ []) 4 4 ∷ take (same 3 4) 1 1 ∷ must-not 1 2
-    ∷ value 4 3 ∷ apply 3 (2 ∷ []) 3 ∷ apply 3 (3 ∷ []) 0 ∷ [])
-    ∷ (add 1 [] 1 1 ∷ add 2 [] 2 2 ∷ add 3 (1 ∷ []) 3 3 ∷ add 3 (2 ∷ []) 4 4 ∷ take (differ 3 4) 1 0 ∷ refuse (same 1 2) 1 ∷ must-not 1 2 ∷ [])
-    ∷ (add 1 [] 1 1 ∷ add 2 (1 ∷ []) 2 2 ∷ add 2 (2 ∷ []) 3 3 ∷ add 2 (3 ∷ []) 4 4 ∷ add 2 (4 ∷ []) 5 5 ∷ add 2 (5 ∷ []) 6 6
-    ∷ take (same 4 1) 1 3 ∷ take (same 6 1) 2 2 ∷ must 2 1 ∷ [])
-    ∷ (add 1 [] 1 1 ∷ refuse-bare (differ 1 1) 1 ∷ [])
-    ∷ (add 1 [] 1 1 ∷ add 2 [] 2 2 ∷ take (same 1 2) 1 1 ∷ add 3 (1 ∷ []) 3 3 ∷ add 3 (2 ∷ []) 4 3 ∷ [])
+    record {
+      log =
+          (add 1 [], added 1 1) ∷ (add 2 (1 ∷ []), added 2 2) ∷ (add 2 (2 ∷ []), added 3 3) ∷ (add 3 (3 ∷ 1 ∷ []), added 4 4) ∷ (add 3 (1 ∷ 1 ∷ []), added 5 5)
+          ∷ (entry (same 2 1), joined 1 3) ∷ (entry (differ 4 5), broken 2 3) ∷ (must 4 5, told true) ∷ [];
+      classes = 2;
+    }
+    ∷ record { log = (add 9 [], added 1 1) ∷ (add 9 [], added 2 1) ∷ []; classes = 1 }
+    ∷ record { log = (add 9 [], added 1 1) ∷ (add 9 (1 ∷ []), added 2 2) ∷ (must 1 2, told false) ∷ []; classes = 2 }
+    ∷ record {
+      log =
+          (add 1 [], added 1 1) ∷ (add 2 [], added 2 2) ∷ (add 3 (1 ∷ 2 ∷ []), added 3 3) ∷ (add 3 (2 ∷ 1 ∷ []), added 4 4) ∷ (must 3 4, told false)
+          ∷ (entry (same 1 2), joined 1 2) ∷ (must 3 4, told true) ∷ [];
+      classes = 2;
+    }
+    ∷ record {
+      log =
+          (add 1 [], added 1 1) ∷ (add 2 [], added 2 2) ∷ (add 3 (1 ∷ []), added 3 3) ∷ (add 3 (2 ∷ []), added 4 4) ∷ (entry (same 3 4), joined 1 1)
+          ∷ (must 1 2, told false) ∷ (lock, turned) ∷ (value 4, valued 3) ∷ (apply 3 (2 ∷ []), valued 3) ∷ (apply 3 (3 ∷ []), valued 0) ∷ [];
+      classes = 3;
+    }
+    ∷ record {
+      log =
+          (add 1 [], added 1 1) ∷ (add 2 [], added 2 2) ∷ (add 3 (1 ∷ []), added 3 3) ∷ (add 3 (2 ∷ []), added 4 4) ∷ (entry (differ 3 4), noted 1)
+          ∷ (entry (same 1 2), broken 1 2) ∷ (must 1 2, told false) ∷ [];
+      classes = 4;
+    }
+    ∷ record {
+      log =
+          (add 1 [], added 1 1) ∷ (add 2 (1 ∷ []), added 2 2) ∷ (add 2 (2 ∷ []), added 3 3) ∷ (add 2 (3 ∷ []), added 4 4) ∷ (add 2 (4 ∷ []), added 5 5)
+          ∷ (add 2 (5 ∷ []), added 6 6) ∷ (entry (same 4 1), joined 1 3) ∷ (entry (same 6 1), joined 2 2) ∷ (must 2 1, told true) ∷ [];
+      classes = 1;
+    }
+    ∷ record { log = (add 1 [], added 1 1) ∷ (entry (differ 1 1), broken 1 0) ∷ []; classes = 1 }
+    ∷ record {
+      log =
+          (add 1 [], added 1 1) ∷ (add 2 [], added 2 2) ∷ (entry (same 1 2), joined 1 1) ∷ (add 3 (1 ∷ []), added 3 3) ∷ (add 3 (2 ∷ []), added 4 3) ∷ [];
+      classes = 2;
+    }
     ∷ []
 
+-- Each example is a run with these answers, and leaves that number of classes.
 abbrev pub Examples-law : Type 0
-Examples-law = All (Answers [] []) examples
+Examples-law = All (λ x. Run 1024 (x .log) × (let s = leaves empty (x .log) in Classes (s .pictures) (s .entries) (x .classes))) examples

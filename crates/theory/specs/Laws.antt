@@ -1,11 +1,12 @@
 -- Small laws, which show that the definitions mean what they say. Assumes nothing.
 use mathlib.Core.Path.{_≡_}
 use mathlib.Core.Bool.{Bool}
-use mathlib.Core.List.{List}
+use mathlib.Core.Logic.{_↔_}
+use mathlib.Core.List.{List, [], _∷_, _++_}
 use Prim.Native.Nat.{ℕ, _≤_, _<_}
 use lib.ListN.{length}
 use Rattle.std.specs.shelf.Lists.{All, Has}
-use Rattle.theory.specs.Sheet.{Picture, Entry, On, Placed, Proper, Is, Keeps, Twins, Congruence, Closure, Lowest, Classes, Applies}
+use Rattle.theory.specs.Sheet.{Picture, Entry, differ, On, Placed, Proper, Is, Keeps, Twins, Congruence, Closure, Lowest, Classes, Applies}
 
 -- the closure is an equivalence, holds every `same` entry, puts twins together, and lies in every relation that does so
 abbrev pub Closure-law : Type 0
@@ -30,7 +31,18 @@ Classes-law =
     (P : List Picture) (E : List Entry) → Proper P E →
     (k : ℕ) × Classes P E k × ((j : ℕ) → Classes P E j → j ≡ k)
 
--- apply answers 0 wherever one of its numbers is above the number of pictures, and so for every number of more than 16 bits
+-- apply answers 0 wherever one of its numbers is no picture's; a run has at most 1,024 pictures, so this holds of 0 and of every number of more than 16 bits
 abbrev pub Wide-law : Type 0
 Wide-law =
-    (P : List Picture) (E : List Entry) (o : ℕ) (xs : List ℕ) (v : ℕ) → Applies P E o xs v → (x : ℕ) → Has xs x → length P < x → v ≡ 0
+    (P : List Picture) (E : List Entry) (o : ℕ) (xs : List ℕ) (v : ℕ) → Applies P E o xs v → (x : ℕ) → Has xs x → ¬ On P x → v ≡ 0
+
+-- a `differ` entry more leaves the closure as it was
+abbrev pub Differ-law : Type 0
+Differ-law =
+    (P : List Picture) (E : List Entry) (c d a b : ℕ) → Closure P E a b ↔ Closure P (E ++ (differ c d ∷ [])) a b
+
+-- one picture more leaves the closure on the earlier pictures as it was
+abbrev pub Add-law : Type 0
+Add-law =
+    (P : List Picture) (x : Picture) (E : List Entry) → Proper P E → All (On P) (x .inputs) →
+    (a b : ℕ) → On P a → On P b → Closure P E a b ↔ Closure (P ++ (x ∷ [])) E a b

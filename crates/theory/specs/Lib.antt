@@ -5,5 +5,6 @@ pub mod Journal
 pub mod Parts
 pub mod Statements
 pub mod Laws
+pub mod Calls
 pub mod Runs
 pub mod Examples

@@ -25,7 +25,7 @@ pub record Joins (f g : ℕ → ℕ) (n a b : ℕ) : Type 0 where
 abbrev pub Join-law : Type 0
 Join-law =
     (f g : ℕ → ℕ) (n a b : ℕ) → 1 ≤ a → a ≤ n → 1 ≤ b → b ≤ n → f a ≢ f b → Joins f g n a b →
-    (k : ℕ) → Parts g n k → Parts f n (suc k)
+    (k : ℕ) → Parts g n k → Parts f n (suc k) × ((m : ℕ) → Parts f n m → m ≡ suc k)
 
 -- where the labels tell the closure, their classes are those of the closure
 abbrev pub Parts-law : Type 0

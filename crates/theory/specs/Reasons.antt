@@ -50,8 +50,17 @@ abbrev pub Derivation : List Picture → List Entry → List Reason → List Rea
 Derivation P E S [] = Unit {0}
 Derivation P E S (s ∷ T) = Fits P E S s × (¬ Joined-by P S (left s) (right s)) × Derivation P E (s ∷ S) T
 
+-- The steps are a reason chain that joins the two pictures.
+abbrev pub Explains : List Picture → List Entry → ℕ → ℕ → List Reason → Type 0
+Explains P E a b T = Derivation P E [] T × Joined-by P T a b
+
 -- what a chain joins is in one class
 abbrev pub Derivation-law : Type 0
 Derivation-law =
-    (P : List Picture) (E : List Entry) (T : List Reason) → Derivation P E [] T →
-    (a b : ℕ) → Joined-by P T a b → Closure P E a b
+    (P : List Picture) (E : List Entry) (a b : ℕ) (T : List Reason) → Explains P E a b T → Closure P E a b
+
+-- two pictures of one class have a chain that joins them
+abbrev pub Explains-law : Type 0
+Explains-law =
+    (P : List Picture) (E : List Entry) → Proper P E →
+    (a b : ℕ) → Closure P E a b → (T : List Reason) × Explains P E a b T

@@ -1,84 +1,78 @@
--- Runs: rows of calls on one sheet, the pictures and entries that follow from them, and the law over runs. Assumes nothing.
+-- Runs: rows of calls with their answers on one sheet, the pictures and entries that follow from them, and the law over runs. Assumes nothing.
 use mathlib.Core.Path.{_≡_}
-use mathlib.Core.Bool.{Bool, true, false}
-use mathlib.Core.Logic.{_⊎_, _↔_}
+use mathlib.Core.Bool.{true}
+use mathlib.Core.Logic.{_↔_}
 use mathlib.Core.List.{List, [], _∷_, _++_}
-use Prim.Native.Nat.{ℕ, _≤_, _<_}
+use Prim.Native.Nat.{ℕ, _-_, _≤_, _<_}
 use lib.ListN.{length}
-use Rattle.std.specs.shelf.Lists.{All}
-use Rattle.theory.specs.Sheet.{Picture, Entry, Reading, On, Placed, Proper, value, Satisfies, Closure, Lowest, Locked}
+use Rattle.theory.specs.Sheet.{Entry, Reading, On, Placed, Proper, value, Satisfies}
+use Rattle.theory.specs.Calls.{Call, tell, must, apply, Answer, told, valued, refused, contradiction, Content, empty, Stands, Answers, Impossible, steps, with-entry, after}
+use Rattle.theory.specs.Calls as calls
 
--- a call with its arguments; of a step table only its number of cells matters
-pub data Call : Type 0 where
-  add : ℕ → List ℕ → Call
-  tell : Entry → ℕ → Call
-  ask : ℕ → ℕ → Call
-  why : ℕ → ℕ → ℕ → Call
-  look : ℕ → Call
-  apply : ℕ → List ℕ → Call
-  lock reopen : Call
+-- A row of calls with their answers, the first first, can be made on this sheet: each may stand where it stands, and has its answer.
+abbrev pub Goes : ℕ → Content → List (Call × Answer) → Type 0
+Goes cap s [] = Unit {0}
+Goes cap s (c ∷ cs) = Stands s (c .0) × Answers cap s (c .0) (c .1) × Goes cap (after s (c .0) (c .1)) cs
 
--- what a sheet holds
-pub record Content : Type 0 where
-  pub locked : Bool
-  pub pictures : List Picture
-  pub entries : List Entry
+-- what the sheet holds after a row of calls
+abbrev pub leaves : Content → List (Call × Answer) → Content
+leaves s [] = s
+leaves s (c ∷ cs) = leaves (after s (c .0) (c .1)) cs
 
-abbrev pub empty : Content
-empty = record { locked = false; pictures = []; entries = [] }
+-- A run begins with a sheet just put together.
+abbrev pub Run : ℕ → List (Call × Answer) → Type 0
+Run cap log = Goes cap empty log
 
--- the picture passes every check of add, on a sheet whose keeper has this capacity
-abbrev pub Room : ℕ → Content → ℕ → List ℕ → Type 0
-Room cap s o is = (length is ≤ 4) × All (On (s .pictures)) is × (length (s .pictures) < 1024) × (length (s .pictures) < cap)
+-- the answer is a refusal as a contradiction
+abbrev pub Refuted : Answer → Type 0
+Refuted r = (k n : ℕ) × (r ≡ refused (contradiction k n))
 
--- the entry passes the checks before the last: the step table's cells, the pictures' numbers, the places
-abbrev pub Passes : Content → Entry → ℕ → Type 0
-Passes s e cells = (1024 ≤ cells) × Placed (s .pictures) e × (length (s .entries) < 2048)
+-- (a) The next entry, if it passes its other checks, is refused as a contradiction exactly when no reading satisfies it together with all entries taken; and
+-- otherwise it is taken.
+abbrev pub Next-entry : ℕ → Content → Type 0
+Next-entry cap s =
+    (e : Entry) (cells : ℕ) → 1024 ≤ cells → Placed (s .pictures) e → length (s .entries) < 2048 →
+    (r : Answer) → Answers cap s (tell e cells) r → (Refuted r ↔ Impossible s e) × ((¬ Impossible s e) → after s (tell e cells) r ≡ with-entry s e)
 
--- no reading satisfies the entry and all entries taken
-abbrev pub Impossible : Content → Entry → Type 0
-Impossible s e = (r : Reading) → ¬ Satisfies r (s .pictures) (s .entries ++ (e ∷ []))
+-- (b) must says yes to two pictures on the sheet exactly when every reading that satisfies all entries taken gives them the same value.
+abbrev pub Must-says : ℕ → Content → Type 0
+Must-says cap s =
+    (a b : ℕ) → On (s .pictures) a → On (s .pictures) b → (r : Answer) → Answers cap s (must a b) r →
+    (r ≡ told true) ↔ ((q : Reading) → Satisfies q (s .pictures) (s .entries) → value q (s .pictures) a ≡ value q (s .pictures) b)
 
--- t where the fact holds, otherwise nothing appended
-abbrev pub Either : Type 0 → Content → Content → Content → Type 0
-Either fact s new t = (fact × (t ≡ new)) ⊎ ((¬ fact) × (t ≡ s))
+-- q is the reading that apply gives
+abbrev pub Read-off : ℕ → Content → Reading → Type 0
+Read-off cap s q = (o : ℕ) (xs : List ℕ) → length xs ≤ 4 → Answers cap s (apply o xs) (valued (q o xs))
 
--- the call c may stand on the sheet s, and leaves t
-abbrev pub Step : ℕ → Content → Call → Content → Type 0
-Step cap s (add o is) t =
-    (s .locked ≡ false)
-    × Either (Room cap s o is) s (record { locked = false; pictures = s .pictures ++ (record { operation = o; inputs = is } ∷ []); entries = s .entries }) t
-Step cap s (tell e cells) t =
-    (s .locked ≡ false)
-    × Either (Passes s e cells × (¬ Impossible s e)) s (record { locked = false; pictures = s .pictures; entries = s .entries ++ (e ∷ []) }) t
-Step cap s (ask a b) t = t ≡ s
-Step cap s (why a b cells) t = t ≡ s
-Step cap s (look p) t = (s .locked ≡ true) × (t ≡ s)
-Step cap s (apply o xs) t = (s .locked ≡ true) × (t ≡ s)
-Step cap s lock t = (s .locked ≡ false) × (t ≡ record { locked = true; pictures = s .pictures; entries = s .entries })
-Step cap s reopen t = (s .locked ≡ true) × (t ≡ record { locked = false; pictures = s .pictures; entries = s .entries })
+-- (c) There is a reading that apply gives; and each gives each picture what value answers, satisfies every entry taken, and gives two pictures one value only where every
+-- satisfying reading does.
+abbrev pub Locked-shows : ℕ → Content → Type 0
+Locked-shows cap s =
+    ((q : Reading) × Read-off cap s q)
+    × ((q : Reading) → Read-off cap s q →
+    ((p : ℕ) → On (s .pictures) p → Answers cap s (calls.value p) (valued (value q (s .pictures) p)))
+    × Satisfies q (s .pictures) (s .entries)
+    × ((a b : ℕ) → On (s .pictures) a → On (s .pictures) b → value q (s .pictures) a ≡ value q (s .pictures) b →
+    (t : Reading) → Satisfies t (s .pictures) (s .entries) → value t (s .pictures) a ≡ value t (s .pictures) b))
 
--- a run of these calls, the newest first, leaves this content
-abbrev pub Run : ℕ → List Call → Content → Type 0
-Run cap [] t = t ≡ empty
-Run cap (c ∷ cs) t = (s : Content) × (Run cap cs s × Step cap s c t)
+-- (d) A chain that a call writes has fewer steps than there are pictures.
+abbrev pub Few-steps : ℕ → Content → Type 0
+Few-steps cap s = (c : Call) (r : Answer) → Answers cap s c r → steps r ≤ length (s .pictures) - 1
 
--- some run leaves this content
-abbrev pub Reached : ℕ → Content → Type 0
-Reached cap s = (cs : List Call) × Run cap cs s
+-- What the sheet holds is within the limits; so 1,024 cells always suffice for a chain.
+abbrev pub Within : ℕ → Content → Type 0
+Within cap s = (length (s .pictures) ≤ 1024) × (length (s .pictures) ≤ cap) × (length (s .entries) ≤ 2048)
 
--- whatever the calls were: some reading satisfies the entries taken; two pictures are in one class exactly when every satisfying reading gives them one
--- value; and the locked sheet's reading gives each picture the lowest number of its class, satisfies every entry, and gives two pictures one value only
--- where every satisfying reading does
+-- Whatever the calls of a run were, however often refused: what it leaves can stand on a sheet and is within the limits, some reading satisfies the entries
+-- taken, and (a), (b), (c) and (d) hold.
 abbrev pub Run-law : Type 0
 Run-law =
-    (cap : ℕ) (cs : List Call) (s : Content) → Run cap cs s →
+    (cap : ℕ) (log : List (Call × Answer)) → Run cap log →
+    let s = leaves empty log in
     Proper (s .pictures) (s .entries)
+    × Within cap s
     × ((r : Reading) × Satisfies r (s .pictures) (s .entries))
-    × ((a b : ℕ) → On (s .pictures) a → On (s .pictures) b →
-    Closure (s .pictures) (s .entries) a b ↔ ((r : Reading) → Satisfies r (s .pictures) (s .entries) → value r (s .pictures) a ≡ value r (s .pictures) b))
-    × ((r : Reading) → Locked (s .pictures) (s .entries) r →
-    ((p : ℕ) → On (s .pictures) p → Lowest (s .pictures) (s .entries) p (value r (s .pictures) p))
-    × Satisfies r (s .pictures) (s .entries)
-    × ((a b : ℕ) → On (s .pictures) a → On (s .pictures) b → value r (s .pictures) a ≡ value r (s .pictures) b →
-    (q : Reading) → Satisfies q (s .pictures) (s .entries) → value q (s .pictures) a ≡ value q (s .pictures) b))
+    × Next-entry cap s
+    × Must-says cap s
+    × Locked-shows cap s
+    × Few-steps cap s

@@ -32,6 +32,6 @@ Slice-law =
     (P : List Picture) (E : List Entry) (T : List Reason) → Derivation P E [] T →
     (bs : List Bool) → Supported P [] bs T → Derivation P E [] (kept bs T)
 
--- a chain has fewer steps than the sheet has pictures
+-- a chain has fewer steps than the sheet has pictures, and none where it has no picture
 abbrev pub Few-law : Type 0
 Few-law = (P : List Picture) (E : List Entry) → Proper P E → (T : List Reason) → Derivation P E [] T → length T ≤ length P - 1

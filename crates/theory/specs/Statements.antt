@@ -13,29 +13,30 @@ Value-law = (P : List Picture) → Ordered P → (r : Reading) (p : ℕ) → On 
 abbrev pub Known : List Picture → List Entry → Type 0
 Known P E = (p : ℕ) → On P p → (m : ℕ) × Lowest P E p m
 
--- (a) no reading satisfies the entries exactly when one of them is broken
+-- no reading satisfies the entries exactly when one of them is broken
 abbrev pub Contradiction-law : Type 0
 Contradiction-law =
     (P : List Picture) (E : List Entry) → Proper P E →
     ((r : Reading) → ¬ Satisfies r P E) ↔ ((k : ℕ) × Broken P E k)
 
--- (b) two pictures are in one class exactly when every reading that satisfies the entries gives them one value
+-- some reading satisfies the entries
+abbrev pub Satisfiable : List Picture → List Entry → Type 0
+Satisfiable P E = (r : Reading) × Satisfies r P E
+
+-- where some reading satisfies the entries, two pictures are in one class exactly when every reading that satisfies them gives the two one value
 abbrev pub Must-law : Type 0
 Must-law =
-    (P : List Picture) (E : List Entry) → Proper P E → ((k : ℕ) → ¬ Broken P E k) →
+    (P : List Picture) (E : List Entry) → Proper P E → Satisfiable P E →
     (a b : ℕ) → On P a → On P b →
     Closure P E a b ↔ ((r : Reading) → Satisfies r P E → value r P a ≡ value r P b)
 
--- (c) the reading of the locked sheet gives each picture its value, satisfies every entry, and gives two pictures one value only where every
--- satisfying reading does
+-- where some reading satisfies the entries, there is a reading of the locked sheet, and each gives each picture its value, satisfies every entry, and gives
+-- two pictures one value only where every satisfying reading does
 abbrev pub Locked-law : Type 0
 Locked-law =
-    (P : List Picture) (E : List Entry) → Proper P E → ((k : ℕ) → ¬ Broken P E k) →
-    (r : Reading) → Locked P E r →
+    (P : List Picture) (E : List Entry) → Proper P E → Satisfiable P E →
+    ((r : Reading) × Locked P E r)
+    × ((r : Reading) → Locked P E r →
     ((p : ℕ) → On P p → Lowest P E p (value r P p))
     × Satisfies r P E
-    × ((a b : ℕ) → On P a → On P b → value r P a ≡ value r P b → (s : Reading) → Satisfies s P E → value s P a ≡ value s P b)
-
--- each class has its lowest number, and it can be found
-abbrev pub Known-law : Type 0
-Known-law = (P : List Picture) (E : List Entry) → Proper P E → Known P E
+    × ((a b : ℕ) → On P a → On P b → value r P a ≡ value r P b → (s : Reading) → Satisfies s P E → value s P a ≡ value s P b))

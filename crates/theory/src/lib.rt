@@ -1,7 +1,8 @@
 // What the answers of a sheet mean: each function's contract is a theorem about the definitions in specs/.
 ghost use Rattle.theory.specs.Statements.{Value-law, Contradiction-law, Must-law, Locked-law};
-ghost use Rattle.theory.specs.Laws.{Closure-law, Lowest-law, Classes-law, Wide-law};
-ghost use Rattle.theory.specs.Reasons.{Derivation-law};
+ghost use Rattle.theory.specs.Laws.{Closure-law, Lowest-law, Classes-law, Wide-law, Add-law, Differ-law};
+ghost use Rattle.theory.specs.Reasons.{Derivation-law, Explains-law};
+ghost use Rattle.theory.specs.Calls.{Answer-law, Limits-law};
 ghost use Rattle.theory.specs.Slices.{Few-law, Slice-law};
 ghost use Rattle.theory.specs.Parts.{Join-law, Parts-law};
 ghost use Rattle.theory.specs.Journal.{Join-more-law, Entry-more-law, Picture-more-law, Tracks-law, Tracks-more-law};
@@ -36,9 +37,16 @@ pub fn there_is_one_number_of_classes() -> u8
     0
 }
 
-// apply answers 0 wherever one of its numbers is above the number of pictures.
+// apply answers 0 wherever one of its numbers is no picture's.
 pub fn apply_gives_nothing_for_wide_numbers() -> u8
     ensures { λ _. ⌜ Wide-law ⌝ }
+{
+    0
+}
+
+// One picture more leaves the closure on the earlier pictures as it was, and a `differ` entry more leaves it as it was.
+pub fn a_picture_more_leaves_the_closure() -> u8
+    ensures { λ _. ⌜ Add-law ⌝ ∗ ⌜ Differ-law ⌝ }
 {
     0
 }
@@ -50,14 +58,14 @@ pub fn no_reading_means_a_broken_entry() -> u8
     0
 }
 
-// Where no `differ` entry is broken, two pictures are in one class exactly when every reading that satisfies the entries gives them one value.
+// Where some reading satisfies the entries, two pictures are in one class exactly when every reading that satisfies the entries gives them one value.
 pub fn must_is_what_every_reading_gives() -> u8
     ensures { λ _. ⌜ Must-law ⌝ }
 {
     0
 }
 
-// The reading of a locked sheet gives each picture the lowest number of its class, satisfies every entry, and gives two pictures one value only where
+// Where some reading satisfies the entries, the reading of a locked sheet gives each picture the lowest number of its class, satisfies every entry, and gives two pictures one value only where
 // every satisfying reading does.
 pub fn the_locked_reading_shows_nothing_more() -> u8
     ensures { λ _. ⌜ Locked-law ⌝ }
@@ -68,6 +76,13 @@ pub fn the_locked_reading_shows_nothing_more() -> u8
 // What a reason chain joins is in one class.
 pub fn a_chain_proves_what_it_joins() -> u8
     ensures { λ _. ⌜ Derivation-law ⌝ }
+{
+    0
+}
+
+// Two pictures of one class have a reason chain that joins them.
+pub fn one_class_has_a_chain() -> u8
+    ensures { λ _. ⌜ Explains-law ⌝ }
 {
     0
 }
@@ -86,7 +101,7 @@ pub fn a_supported_part_of_a_chain_is_a_chain() -> u8
     0
 }
 
-// A join of two classes leaves one class fewer, whichever representative is kept; and the classes of labels that tell the closure are its classes.
+// A join of two classes leaves exactly one class fewer, whichever representative is kept; and the classes of labels that tell the closure are its classes.
 pub fn a_join_costs_one_class() -> u8
     ensures { λ _. ⌜ Join-law ⌝ ∗ ⌜ Parts-law ⌝ }
 {
@@ -100,7 +115,22 @@ pub fn a_journal_stays_a_chain() -> u8
     0
 }
 
-// Whatever the calls of a run were, some reading satisfies the entries taken, and the laws of must and of the locked reading hold of what the run left.
+// On a sheet each call has an answer, and two answers to it are the same apart from the steps of the chain.
+pub fn a_call_has_one_answer() -> u8
+    ensures { λ _. ⌜ Answer-law ⌝ }
+{
+    0
+}
+
+// 1,024 cells, four inputs, 1,024 pictures and 2,048 entries pass, and not one cell fewer or one input, picture or entry more.
+pub fn the_limits_are_exact() -> u8
+    ensures { λ _. ⌜ Limits-law ⌝ }
+{
+    0
+}
+
+// Whatever the calls of a run were: some reading satisfies the entries taken; the next entry is refused as a contradiction exactly when no reading satisfies
+// it with them; must says yes exactly when every satisfying reading gives one value; and the reading that apply gives shows that nothing more was forced.
 pub fn runs_keep_the_laws() -> u8
     ensures { λ _. ⌜ Run-law ⌝ }
 {
