@@ -7,7 +7,7 @@ pub mod Examples
 pub mod Growing
 pub mod Runs
 pub mod Answering
-pub mod Limits
+pub mod Checks
 pub mod Reasons
 pub mod Parts
 pub mod Slices

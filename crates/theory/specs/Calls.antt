@@ -1,7 +1,7 @@
 -- The calls of a sheet: where each may stand, its checks in their order, its answer and its refusals, and what it leaves. Assumes nothing.
 use mathlib.Core.Path.{_≡_}
 use mathlib.Core.Bool.{Bool, true, false, cond}
-use mathlib.Core.Logic.{_≢_, _⊎_}
+use mathlib.Core.Logic.{_⊎_, _↔_}
 use mathlib.Core.List.{List, [], _∷_, _++_}
 use Prim.Native.Nat.{ℕ, zero, suc, _+_, _≤_, _<_}
 use lib.ListN.{length}
@@ -205,19 +205,34 @@ refusal-number turned = 0
 refusal-number (valued v) = 0
 refusal-number (refused f) = number f
 
--- The limits, from both sides: 1,023 cells are refused with 1, and 1,024 are not; five inputs are refused with 5, and four are not; with 1,024 pictures
--- another is refused with 3, and with 1,023 it is not; with 2,048 entries another is refused with 3, even `differ 1 1`, and with 2,047 it is not.
-abbrev pub Limits-law : Type 0
-Limits-law =
-    (cap : ℕ) (s : Content) (r : Answer) →
-    ((e : Entry) → Answers cap s (tell e 1023) r → refusal-number r ≡ 1)
-    × ((e : Entry) → Answers cap s (tell e 1024) r → refusal-number r ≢ 1)
-    × ((o : ℕ) (is : List ℕ) → length is ≡ 5 → Answers cap s (add o is) r → refusal-number r ≡ 5)
-    × ((o : ℕ) (is : List ℕ) → length is ≡ 4 → Answers cap s (add o is) r → refusal-number r ≢ 5)
-    × ((o : ℕ) → length (s .pictures) ≡ 1024 → Answers cap s (add o []) r → refusal-number r ≡ 3)
-    × ((o : ℕ) → length (s .pictures) ≡ 1023 → 1023 < cap → Answers cap s (add o []) r → refusal-number r ≢ 3)
-    × ((e : Entry) → Placed (s .pictures) e → length (s .entries) ≡ 2048 → Answers cap s (tell e 1024) r → refusal-number r ≡ 3)
-    × ((e : Entry) → length (s .entries) ≡ 2047 → Answers cap s (tell e 1024) r → refusal-number r ≢ 3)
+-- the answer is a refusal with this number
+abbrev pub Refuses : Answer → ℕ → Type 0
+Refuses r k = refusal-number r ≡ k
+
+-- The table of refusals: each number comes exactly when its row says, where the rows above it let the call pass.
+abbrev pub Checked : ℕ → Content → Call → Answer → Type 0
+Checked cap s (add o is) r =
+    ((4 < length is) ↔ Refuses r 5)
+    × (length is ≤ 4 → (¬ All (On (s .pictures)) is) ↔ Refuses r 2)
+    × (length is ≤ 4 → All (On (s .pictures)) is → ((1024 ≤ length (s .pictures)) ⊎ (cap ≤ length (s .pictures))) ↔ Refuses r 3)
+Checked cap s (tell e cells) r =
+    ((cells < 1024) ↔ Refuses r 1)
+    × (1024 ≤ cells → (¬ Placed (s .pictures) e) ↔ Refuses r 2)
+    × (1024 ≤ cells → Placed (s .pictures) e → (2048 ≤ length (s .entries)) ↔ Refuses r 3)
+    × (1024 ≤ cells → Placed (s .pictures) e → length (s .entries) < 2048 → Impossible s e ↔ Refuses r 4)
+Checked cap s (must a b) r = (¬ (On (s .pictures) a × On (s .pictures) b)) ↔ Refuses r 2
+Checked cap s (why a b cells) r =
+    ((cells < 1024) ↔ Refuses r 1)
+    × (1024 ≤ cells → (¬ (On (s .pictures) a × On (s .pictures) b)) ↔ Refuses r 2)
+    × (1024 ≤ cells → On (s .pictures) a → On (s .pictures) b → (¬ Closure (s .pictures) (s .entries) a b) ↔ Refuses r 6)
+Checked cap s lock r = r ≡ turned
+Checked cap s reopen r = r ≡ turned
+Checked cap s (value p) r = (¬ On (s .pictures) p) ↔ Refuses r 2
+Checked cap s (apply o xs) r = (4 < length xs) ↔ Refuses r 5
+
+-- every answer follows the table
+abbrev pub Checks-law : Type 0
+Checks-law = (cap : ℕ) (s : Content) (c : Call) (r : Answer) → Answers cap s c r → Checked cap s c r
 
 -- a refusal without the steps of its chain
 abbrev pub refusal-apart : Refusal → Refusal

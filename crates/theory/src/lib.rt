@@ -2,7 +2,7 @@
 ghost use Rattle.theory.specs.Statements.{Value-law, Contradiction-law, Must-law, Locked-law};
 ghost use Rattle.theory.specs.Laws.{Closure-law, Lowest-law, Classes-law, Wide-law, Add-law, Differ-law};
 ghost use Rattle.theory.specs.Reasons.{Derivation-law, Explains-law};
-ghost use Rattle.theory.specs.Calls.{Answer-law, Limits-law};
+ghost use Rattle.theory.specs.Calls.{Answer-law, Checks-law};
 ghost use Rattle.theory.specs.Slices.{Few-law, Slice-law};
 ghost use Rattle.theory.specs.Parts.{Join-law, Parts-law};
 ghost use Rattle.theory.specs.Journal.{Join-more-law, Entry-more-law, Picture-more-law, Tracks-law, Tracks-more-law};
@@ -122,9 +122,9 @@ pub fn a_call_has_one_answer() -> u8
     0
 }
 
-// 1,024 cells, four inputs, 1,024 pictures and 2,048 entries pass, and not one cell fewer or one input, picture or entry more.
-pub fn the_limits_are_exact() -> u8
-    ensures { λ _. ⌜ Limits-law ⌝ }
+// Every refusal has its number exactly when its row of the table says, where the rows above it let the call pass.
+pub fn the_refusals_follow_their_table() -> u8
+    ensures { λ _. ⌜ Checks-law ⌝ }
 {
     0
 }
