@@ -1,3 +1,2 @@
-pub mod Drawn
 pub mod Working
-pub mod Waiting
+pub mod Sights

@@ -10,7 +10,7 @@ pub mod rooting;
 pub mod merging;
 // twins put together
 pub mod settling;
-// classes made again from the journal
+// classes made again from nothing
 pub mod restoring;
 
 pub use journal::{Cause, Join};

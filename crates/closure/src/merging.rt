@@ -1,22 +1,17 @@
-ghost use Rattle.std.specs.Prelude.{◌≡◌, ℕ, ◌+◌, ◌<◌, ◌≤◌, ◌≢◌, List, [], ◌∷◌, ◌++◌, map, length, vec_len, vec_capacity};
-ghost use Rattle.keepers.specs.Meaning.{rep, Within, Unites, moved};
+ghost use Rattle.std.specs.Prelude.{◌≡◌, ℕ, ◌+◌, ◌<◌, ◌≤◌, List, [], ◌∷◌, ◌++◌, length, vec_len, vec_capacity};
+ghost use Rattle.keepers.specs.Meaning.{Unites};
 ghost use Rattle.indexes.specs.Meaning.{held};
-ghost use Rattle.indexes.specs.Rows.{cells_of};
-ghost use Rattle.theory.specs.Sheet.{On};
-ghost use Rattle.closure.specs.Drawn.{sheet};
-ghost use Rattle.closure.specs.Working.{Apart};
-ghost use Rattle.closure.specs.Waiting.{noted, waits, uses, Free, Posted, Working, Withdrawn};
+ghost use Rattle.closure.specs.Working.{Apart, Inward};
 
 use crate::journal::Join;
 use crate::picture::{Note, Picture};
 use crate::rooting::root;
-use indexes::{Index, Row};
+use indexes::Index;
 use keepers::{Keeper, Outcome};
 
 // Makes the two classes of a join one.
-pub fn unite<K: Keeper>(k: &mut K, join: &Join)
-    requires on { Within (reps k.old) join.now.left × Within (reps k.old) join.now.right }
-    requires apart { rep (reps k.old) join.now.left ≢ rep (reps k.old) join.now.right }
+fn unite<K: Keeper>(k: &mut K, join: &Join)
+    requires { Apart (reps k.old) join.now }
     ensures { Unites join.now.left join.now.right (reps k.old) (reps k.new) }
 {
     match k.join(join.left, join.right) {
@@ -26,68 +21,23 @@ pub fn unite<K: Keeper>(k: &mut K, join: &Join)
     }
 }
 
-// Whether a row has a number.
-fn has(row: &[u16], x: u16) -> bool
-    ensures { result ≡ uses x row.now }
+// Takes the picture at a place out of the index, and lets it wait, if its row has the lost representative.
+fn withdraw<I: Index>(index: &mut I, picture: &Picture, note: &mut Note, lost: u16)
+    ensures { (n : ℕ) → Inward n (held (leads index.old)) → Inward n (held (leads index.new)) }
 {
-    for y in row {
-        if *y == x {
-            return true;
-        }
-    }
-    false
-}
-
-// One number in place of another.
-fn heir_of(x: u16, lost: u16, heir: u16) -> u16
-    ensures { result ≡ moved lost heir x }
-{
-    if x == lost { heir } else { x }
-}
-
-// A row with one number in place of another.
-fn rename(row: &Row, lost: u16, heir: u16) -> Row
-    ensures { cells_of result ≡ map (moved lost heir) (cells_of row.now) }
-{
-    let old = row.as_slice();
-    let n = old.len();
-    let mut cells = [0u16; 4];
-    for i in 0..n {
-        cells[i] = heir_of(old[i], lost, heir);
-    }
-    match Row::new(&cells[0..n]) {
-        Some(r) => r,
-        None => unreachable(),
-    }
-}
-
-// Takes a picture out of the index, notes its new row, and lets it wait, if its row has the lost representative.
-fn withdraw<I: Index>(index: &mut I, picture: &Picture, note: &mut Note, lost: u16, heir: u16)
-    ensures { Withdrawn (moved lost heir) lost picture.now.op note.old note.new (held (leads index.old)) (held (leads index.new)) }
-{
-    if has(note.row.as_slice(), lost) {
+    if !note.waits && note.row.as_slice().contains(&lost) {
         index.delete(picture.op, note.row.as_slice());
-        *note = Note {
-            row: rename(&note.row, lost, heir),
-            waits: true,
-        };
+        note.waits = true;
     }
 }
 
-// Does so with each picture.
-fn withdraw_all<I: Index>(
-    index: &mut I,
-    pictures: &[Picture],
-    notes: &mut [Note],
-    lost: u16,
-    heir: u16,
-)
+// Takes each picture whose row has the lost representative out of the index, and lets it wait.
+fn withdraw_all<I: Index>(index: &mut I, pictures: &[Picture], notes: &mut [Note], lost: u16)
     requires { length notes.old ≡ length pictures.now }
-    ensures rows { (p : ℕ) → On (sheet pictures.now) p → noted notes.new p ≡ map (moved lost heir) (noted notes.old p) }
-    ensures posted { (f : ℕ → ℕ) → Posted f (sheet pictures.now) (noted notes.old) (held (leads index.old)) (waits notes.old) (Free lost) → Posted f (sheet pictures.now) (noted notes.new) (held (leads index.new)) (waits notes.new) (Free lost) }
+    ensures { (n : ℕ) → Inward n (held (leads index.old)) → Inward n (held (leads index.new)) }
 {
     for i in 0..pictures.len() {
-        withdraw(index, &pictures[i], &mut notes[i], lost, heir);
+        withdraw(index, &pictures[i], &mut notes[i], lost);
     }
 }
 
@@ -100,13 +50,14 @@ pub fn merge<K: Keeper, I: Index>(
     journal: &mut Vec<Join>,
     join: Join,
 )
-    requires working { Working (reps k.old) (sheet pictures.now) notes.old (held (leads index.old)) journal.old.items }
-    requires apart { Apart (reps k.old) (sheet pictures.now) join }
-    requires room { 1024 ≤ vec_capacity journal.old }
-    ensures working { Working (reps k.new) (sheet pictures.now) notes.new (held (leads index.new)) journal.new.items }
+    requires apart { Apart (reps k.old) join }
+    requires sized { length notes.old ≡ length pictures.now }
+    requires room { vec_len journal.old < vec_capacity journal.old }
+    ensures unites { Unites join.left join.right (reps k.old) (reps k.new) }
     ensures items { journal.new.items ≡ journal.old.items ++ join ∷ [] }
-    ensures joined { rep (reps k.new) join.left ≡ rep (reps k.new) join.right }
-    ensures room { 1024 ≤ vec_capacity journal.new }
+    ensures len { vec_len journal.new ≡ vec_len journal.old + 1 }
+    ensures space { vec_capacity journal.new ≡ vec_capacity journal.old }
+    ensures inward { (n : ℕ) → Inward n (held (leads index.old)) → Inward n (held (leads index.new)) }
 {
     let a = root(k, join.left);
     let b = root(k, join.right);
@@ -114,5 +65,5 @@ pub fn merge<K: Keeper, I: Index>(
     journal.push_reserved(join);
     let heir = root(k, join.left);
     let lost = if heir == a { b } else { a };
-    withdraw_all(index, pictures, notes, lost, heir);
+    withdraw_all(index, pictures, notes, lost);
 }

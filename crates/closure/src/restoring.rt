@@ -1,16 +1,12 @@
-ghost use Rattle.std.specs.Prelude.{◌≡◌, ℕ, ◌+◌, ◌<◌, ◌≤◌, true, length, take, vec_len, vec_capacity, All};
+ghost use Rattle.std.specs.Prelude.{◌≡◌, ℕ, ◌+◌, ◌<◌, ◌≤◌, length, vec_len, vec_capacity};
 ghost use Rattle.std.specs.List.{range_with_len};
-ghost use Rattle.keepers.specs.Meaning.{rep};
+ghost use Rattle.keepers.specs.Meaning.{Upto};
 ghost use Rattle.indexes.specs.Meaning.{held};
-ghost use Rattle.theory.specs.Sheet.{On};
-ghost use Rattle.closure.specs.Drawn.{sheet};
-ghost use Rattle.closure.specs.Working.{Ready, Books, Grows, Fresh, Placed, Any};
-ghost use Rattle.closure.specs.Waiting.{row, noted, waits, Idle, Working};
+ghost use Rattle.closure.specs.Working.{Ready, Inward, Booked};
 
 use crate::journal::Join;
-use crate::merging::unite;
 use crate::picture::{Note, Picture};
-use crate::rooting::roots;
+use crate::rooting::together;
 use crate::settling::settle;
 use indexes::Index;
 use keepers::Keeper;
@@ -29,60 +25,50 @@ fn populate<K: Keeper>(k: &mut K, n: u16)
     }
 }
 
-// Makes the joins of a journal again, from pictures that are each alone.
-fn replay<K: Keeper>(k: &mut K, pictures: &[Picture], journal: &[Join])
-    requires ready { Ready (reps k.old) (sheet pictures.now) }
-    requires limit { length pictures.now ≤ limit }
-    requires placed { All (Placed (sheet pictures.now)) journal.now }
-    requires fresh { Fresh (sheet pictures.now) journal.now }
-    ensures ready { Ready (reps k.new) (sheet pictures.now) }
-    ensures books { Books (reps k.new) (sheet pictures.now) journal.now }
+// How many joins of the journal, from the first on, put two pictures together. The keeper then has the classes of these joins.
+pub fn reach<K: Keeper>(k: &mut K, n: u16, journal: &[Join], a: u16, b: u16) -> usize
+    requires few { n ≤ limit }
+    requires on { Upto n a × Upto n b }
+    ensures within { result ≤ length journal.now }
+    ensures counted { length (reps k.new) ≡ n }
 {
-    populate(k, pictures.len() as u16);
+    populate(k, n);
     for i in 0..journal.len() {
-        unite(k, &journal[i]);
+        if together(k, a, b) {
+            return i;
+        }
+        let _ = k.join(journal[i].left, journal[i].right);
+    }
+    journal.len()
+}
+
+// Lets every picture wait.
+fn wake(notes: &mut [Note]) {
+    for note in notes.iter_mut() {
+        note.waits = true;
     }
 }
 
-// Notes the row of each picture anew, and lets each wait.
-fn renote<K: Keeper>(k: &mut K, pictures: &[Picture], notes: &mut [Note])
-    requires ready { Ready (reps k.old) (sheet pictures.now) }
-    requires sized { length notes.old ≡ length pictures.now }
-    ensures same { reps k.new ≡ reps k.old }
-    ensures rows { (p : ℕ) → On (sheet pictures.now) p → noted notes.new p ≡ row (rep (reps k.old)) (sheet pictures.now) p }
-    ensures waits { (p : ℕ) → On (sheet pictures.now) p → waits notes.new p ≡ true }
-{
-    for i in 0..pictures.len() {
-        notes[i] = Note {
-            row: roots(k, &pictures[i].inputs),
-            waits: true,
-        };
-    }
-}
-
-// Goes back to the first joins of the journal, and puts twins together from there.
-pub fn restore<K: Keeper, I: Index>(
+// Goes back to no entry: each picture alone but for its twins.
+pub fn restart<K: Keeper, I: Index>(
     k: &mut K,
     index: &mut I,
     pictures: &[Picture],
     notes: &mut [Note],
     journal: &mut Vec<Join>,
-    to: usize,
 )
-    requires ready { Ready (reps k.old) (sheet pictures.now) }
-    requires limit { length pictures.now ≤ limit }
+    requires ready { Ready (reps k.old) pictures.now }
+    requires few { length pictures.now ≤ limit }
     requires sized { length notes.old ≡ length pictures.now }
-    requires placed { All (Placed (sheet pictures.now)) journal.old.items }
-    requires fresh { Fresh (sheet pictures.now) journal.old.items }
     requires room { 1024 ≤ vec_capacity journal.old }
-    ensures working { Working (reps k.new) (sheet pictures.now) notes.new (held (leads index.new)) journal.new.items }
-    ensures idle { Idle (sheet pictures.now) notes.new }
-    ensures grows { Grows (sheet pictures.now) Any (take to journal.old.items) journal.new.items }
-    ensures room { 1024 ≤ vec_capacity journal.new }
+    ensures ready { Ready (reps k.new) pictures.now }
+    ensures inward { Inward (length pictures.now) (held (leads index.new)) }
+    ensures booked { Booked (reps k.new) (vec_len journal.new) }
+    ensures space { vec_capacity journal.new ≡ vec_capacity journal.old }
 {
-    journal.truncate(to);
-    replay(k, pictures, journal.as_slice());
+    populate(k, pictures.len() as u16);
     index.reset();
-    renote(k, pictures, notes);
+    journal.clear();
+    wake(notes);
     settle(k, index, pictures, notes, journal);
 }

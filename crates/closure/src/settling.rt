@@ -1,95 +1,75 @@
-ghost use Rattle.std.specs.Prelude.{◌≡◌, ℕ, ◌+◌, ◌<◌, ◌≤◌, true, List, length, Some, vec_len, vec_capacity};
-ghost use Rattle.keepers.specs.Meaning.{rep, Within};
+ghost use Rattle.std.specs.Prelude.{◌≡◌, ℕ, ◌+◌, ◌<◌, ◌≤◌, length, IfSome, vec_len, vec_capacity};
+ghost use Rattle.keepers.specs.Meaning.{rep, Within, Upto};
 ghost use Rattle.indexes.specs.Meaning.{held};
-ghost use Rattle.indexes.specs.Rows.{cells_of};
-ghost use Rattle.theory.specs.Sheet.{Entry, On};
-ghost use Rattle.theory.specs.Reasons.{Fits};
-ghost use Rattle.closure.specs.Drawn.{sheet, reason_of, reasons};
-ghost use Rattle.closure.specs.Working.{Ready, Grows, Any};
-ghost use Rattle.closure.specs.Waiting.{Going, Idle, Working, Swept, Visited, Looked};
+ghost use Rattle.closure.specs.Working.{Ready, Fed, Inward, Apart, Booked, Progress};
+ghost use Rattle.closure.specs.Sights.{Seen};
 
 use crate::journal::{Cause, Join};
 use crate::merging::merge;
 use crate::picture::{Note, Picture};
-use crate::rooting::together;
-use indexes::Index;
+use crate::rooting::{roots, together};
+use indexes::{Index, Row};
 use keepers::Keeper;
 
-// Looks the signature of picture p up, and enters it where it is not held. Answers the picture to which it leads where that is in another class.
-fn visit<K: Keeper, I: Index>(
-    k: &mut K,
-    index: &mut I,
-    picture: &Picture,
-    note: &Note,
-    p: u16,
-) -> Option<u16>
+// What a look at a waiting picture comes to.
+#[derive(Clone, Copy)]
+pub enum Sight {
+    // its signature, of which this is the row, leads to a picture of its class
+    Posted(Row),
+    // it has a twin in another class
+    Twin(u16),
+}
+
+// Looks the signature of picture p up, and enters it where it is not held.
+fn visit<K: Keeper, I: Index>(k: &mut K, index: &mut I, picture: &Picture, p: u16) -> Sight
     requires on { Within (reps k.old) p }
-    requires inward { (o : ℕ) (w : List ℕ) (q : ℕ) → held (leads index.old) o w ≡ Some q → Within (reps k.old) q }
-    requires room { length (leads index.old) < 1024 }
+    requires fed { Fed (length (reps k.old)) picture.now }
+    requires inward { Inward (length (reps k.old)) (held (leads index.old)) }
     ensures same { reps k.new ≡ reps k.old }
-    ensures visited { Visited (rep (reps k.old)) (held (leads index.old)) (held (leads index.new)) picture.now.op (cells_of note.now.row) p result }
+    ensures seen { Seen (reps k.old) p result }
+    ensures inward { Inward (length (reps k.old)) (held (leads index.new)) }
 {
-    match index.query(picture.op, note.row.as_slice()) {
+    let row = roots(k, &picture.inputs);
+    match index.query(picture.op, row.as_slice()) {
         Some(q) => {
-            if together(k, q, p) {
-                return None;
+            if together(k, p, q) {
+                Sight::Posted(row)
+            } else {
+                Sight::Twin(q)
             }
-            Some(q)
         }
         None => {
-            let _ = index.enter(picture.op, note.row.as_slice(), p);
-            None
+            let _ = index.enter(picture.op, row.as_slice(), p);
+            Sight::Posted(row)
         }
     }
 }
 
-// Looks at picture p if it waits. Answers a picture of another class to which its signature leads; else it waits no more.
-fn look<K: Keeper, I: Index>(
-    k: &mut K,
-    index: &mut I,
-    picture: &Picture,
-    note: &mut Note,
-    p: u16,
-) -> Option<u16>
-    requires on { Within (reps k.old) p }
-    requires inward { (o : ℕ) (w : List ℕ) (q : ℕ) → held (leads index.old) o w ≡ Some q → Within (reps k.old) q }
-    requires room { note.old.waits ≡ true → length (leads index.old) < 1024 }
-    ensures same { reps k.new ≡ reps k.old }
-    ensures looked { Looked (rep (reps k.old)) (held (leads index.old)) (held (leads index.new)) picture.now.op p note.old note.new result }
-{
-    if !note.waits {
-        return None;
-    }
-    if let Some(q) = visit(k, index, picture, note, p) {
-        return Some(q);
-    }
-    note.waits = false;
-    None
-}
-
-// Looks at the pictures that wait, as far as two twins of different classes.
+// Sights the pictures that wait, as far as two twins of different classes.
 fn sweep<K: Keeper, I: Index>(
     k: &mut K,
     index: &mut I,
     pictures: &[Picture],
     notes: &mut [Note],
 ) -> Option<Join>
-    requires ready { Ready (reps k.old) (sheet pictures.now) }
-    requires going { Going (rep (reps k.old)) (sheet pictures.now) notes.old (held (leads index.old)) }
+    requires ready { Ready (reps k.old) pictures.now }
     requires sized { length notes.old ≡ length pictures.now }
-    requires few { length pictures.now ≤ 1024 }
+    requires inward { Inward (length pictures.now) (held (leads index.old)) }
     ensures same { reps k.new ≡ reps k.old }
-    ensures going { Going (rep (reps k.old)) (sheet pictures.now) notes.new (held (leads index.new)) }
-    ensures swept { Swept (rep (reps k.old)) (sheet pictures.now) notes.new result }
+    ensures found { IfSome result (λ j. Apart (reps k.old) j) }
+    ensures inward { Inward (length pictures.now) (held (leads index.new)) }
 {
     for i in 0..pictures.len() {
-        let p = i as u16 + 1;
-        if let Some(q) = look(k, index, &pictures[i], &mut notes[i], p) {
-            return Some(Join {
-                left: p,
-                right: q,
-                cause: Cause::Twins,
-            });
+        if notes[i].waits {
+            let p = i as u16 + 1;
+            match visit(k, index, &pictures[i], p) {
+                Sight::Posted(row) => notes[i] = Note { row, waits: false },
+                Sight::Twin(q) => return Some(Join {
+                    left: p,
+                    right: q,
+                    cause: Cause::Twins,
+                }),
+            }
         }
     }
     None
@@ -103,19 +83,21 @@ pub fn settle<K: Keeper, I: Index>(
     notes: &mut [Note],
     journal: &mut Vec<Join>,
 )
-    requires working { Working (reps k.old) (sheet pictures.now) notes.old (held (leads index.old)) journal.old.items }
+    requires ready { Ready (reps k.old) pictures.now }
+    requires sized { length notes.old ≡ length pictures.now }
+    requires inward { Inward (length pictures.now) (held (leads index.old)) }
+    requires booked { Booked (reps k.old) (vec_len journal.old) }
     requires room { 1024 ≤ vec_capacity journal.old }
-    ensures working { Working (reps k.new) (sheet pictures.now) notes.new (held (leads index.new)) journal.new.items }
-    ensures idle { Idle (sheet pictures.now) notes.new }
-    ensures grows { Grows (sheet pictures.now) Any journal.old.items journal.new.items }
-    ensures room { 1024 ≤ vec_capacity journal.new }
+    ensures progress { Progress (reps k.old) (reps k.new) (vec_len journal.old) (vec_len journal.new) }
+    ensures inward { Inward (length pictures.now) (held (leads index.new)) }
+    ensures space { vec_capacity journal.new ≡ vec_capacity journal.old }
 {
     while let Some(join) = sweep(k, index, pictures, notes) {
         merge(k, index, pictures, notes, journal, join);
     }
 }
 
-// Joins two pictures for a cause, and then twins until they are all together.
+// Joins two pictures by an entry, and then twins until they are all together.
 pub fn tie<K: Keeper, I: Index>(
     k: &mut K,
     index: &mut I,
@@ -124,15 +106,15 @@ pub fn tie<K: Keeper, I: Index>(
     journal: &mut Vec<Join>,
     join: Join,
 )
-    requires working { Working (reps k.old) (sheet pictures.now) notes.old (held (leads index.old)) journal.old.items }
-    requires idle { Idle (sheet pictures.now) notes.old }
-    requires on { On (sheet pictures.now) join.left × On (sheet pictures.now) join.right }
+    requires ready { Ready (reps k.old) pictures.now }
+    requires on { Upto (length pictures.now) join.left × Upto (length pictures.now) join.right }
+    requires sized { length notes.old ≡ length pictures.now }
+    requires inward { Inward (length pictures.now) (held (leads index.old)) }
+    requires booked { Booked (reps k.old) (vec_len journal.old) }
     requires room { 1024 ≤ vec_capacity journal.old }
-    ensures working { Working (reps k.new) (sheet pictures.now) notes.new (held (leads index.new)) journal.new.items }
-    ensures idle { Idle (sheet pictures.now) notes.new }
-    ensures grows { Grows (sheet pictures.now) (λ E. Fits (sheet pictures.now) E (reasons journal.old.items) (reason_of join)) journal.old.items journal.new.items }
-    ensures joined { rep (reps k.new) join.left ≡ rep (reps k.new) join.right }
-    ensures room { 1024 ≤ vec_capacity journal.new }
+    ensures progress { Progress (reps k.old) (reps k.new) (vec_len journal.old) (vec_len journal.new) }
+    ensures inward { Inward (length pictures.now) (held (leads index.new)) }
+    ensures space { vec_capacity journal.new ≡ vec_capacity journal.old }
 {
     if together(k, join.left, join.right) {
         return;

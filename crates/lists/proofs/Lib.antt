@@ -6,6 +6,3 @@ pub mod Unique
 pub mod Cutting
 pub mod Printing
 pub mod Takings
-pub mod Doing
-pub mod Putting
-pub mod Records

@@ -1,7 +1,6 @@
 -- The numbers and details of a line's refusals, and how one is printed. Assumes nothing.
 use Rattle.std.specs.Prelude.{ℕ, List, ◌++◌, codes, decimal}
-use Rattle.theory.specs.Calls.{number, detail}
-use Rattle.sheets.specs.Faults.{refusal_of}
+use Rattle.sheets.specs.Faults.{fault_number, fault_detail}
 use Rattle.lists.specs.declared.fault.NumberFault.{NumberFault}
 use Rattle.lists.specs.declared.fault.NumberFault.TheVariants.{Shape, Wide}
 use Rattle.lists.specs.declared.fault.LineFault.{LineFault}
@@ -21,13 +20,13 @@ number_fault_detail (Wide p) = p
 abbrev pub line_fault_number : LineFault → ℕ
 line_fault_number (Form p) = 7
 line_fault_number (Number f) = number_fault_number f
-line_fault_number (Sheet f) = number (refusal_of f)
+line_fault_number (Sheet f) = fault_number f
 
 -- the detail of a line's refusal: a place in the line, or what the call gives
 abbrev pub line_fault_detail : LineFault → ℕ
 line_fault_detail (Form p) = p
 line_fault_detail (Number f) = number_fault_detail f
-line_fault_detail (Sheet f) = detail (refusal_of f)
+line_fault_detail (Sheet f) = fault_detail f
 
 -- a refusal as it is printed
 abbrev pub fault_text : LineFault → List ℕ

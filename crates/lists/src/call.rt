@@ -1,5 +1,4 @@
-ghost use Rattle.std.specs.Prelude.{◌≡◌, length};
-ghost use Rattle.sheets.specs.Content.{content};
+ghost use Rattle.std.specs.Prelude.{length};
 ghost use Rattle.sheets.specs.Whole.{Whole};
 ghost use Rattle.lists.specs.Form.{Takes};
 ghost use Rattle.lists.specs.Lines.{line_numbers};
@@ -19,10 +18,9 @@ pub(crate) fn answer_line<K: Keeper, I: Index>(
     table: &mut [Step],
     text: &[u8],
 ) -> Result<Answer, LineFault>
-    requires whole { Whole K.Keeper I.Index sheet.old }
-    requires cells { length table.old ≡ 1024 }
+    requires { Whole K.Keeper I.Index sheet.old }
     ensures whole { Whole K.Keeper I.Index sheet.new }
-    ensures replies { Replies (Did K.Keeper.limit) (content sheet.old) text.now result (content sheet.new) }
+    ensures replies { Replies Did sheet.old text.now result sheet.new }
 {
     let line = read_line(text)?;
     Ok(make_call(sheet, table, &line)?)
@@ -35,10 +33,9 @@ fn make_call<K: Keeper, I: Index>(
     line: &Line,
 ) -> Result<Answer, SheetFault>
     requires whole { Whole K.Keeper I.Index sheet.old }
-    requires cells { length table.old ≡ 1024 }
     requires takes { Takes line.now.letter (length (line_numbers line.now)) }
     ensures whole { Whole K.Keeper I.Index sheet.new }
-    ensures did { Did K.Keeper.limit (content sheet.old) line.now.letter (line_numbers line.now) result (content sheet.new) }
+    ensures did { Did sheet.old line.now.letter (line_numbers line.now) result sheet.new }
 {
     match (line.letter(), line.numbers()) {
         ('p', [operation, inputs @ ..]) => Ok(Answer::Added(sheet.add(*operation, inputs)?)),

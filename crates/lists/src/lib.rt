@@ -8,17 +8,18 @@ pub mod line;
 mod number;
 // reads a line
 pub mod form;
-// what a line is answered
+// what a line is answered, and how that is printed
 pub mod reply;
-// how that is printed
-mod print;
 // makes the call that a line asks for
 mod call;
+// want of memory
+pub mod memory;
 // goes over the lines of a text, and prints the record
 pub mod record;
 
 pub use fault::{LineFault, NumberFault};
 pub use form::{a_line_has_one_reading, read_line};
 pub use line::Line;
-pub use record::{a_text_has_one_record, print_record};
+pub use memory::NoMemory;
+pub use record::print_record;
 pub use reply::Answer;

@@ -1,15 +1,16 @@
-ghost use Rattle.std.specs.Prelude.{◌≡◌, ◌<◌, ◌∷◌, length, IfOk};
-ghost use Rattle.sheets.specs.Content.{content};
-ghost use Rattle.sheets.specs.Whole.{Whole};
+ghost use Rattle.std.specs.Prelude.{◌≡◌, ◌<◌, ◌∷◌, length, IfOk, string_bytes};
+ghost use Rattle.sheets.specs.Whole.{Whole, Fresh, Counted};
 ghost use Rattle.lists.specs.Replies.{Did};
-ghost use Rattle.lists.specs.Printouts.{lines, Prints, Printout, OneRecord};
+ghost use Rattle.lists.specs.Printouts.{lines, Prints, Printout};
 
 use crate::call::answer_line;
-use crate::print::{put_one, say};
+use crate::memory::NoMemory;
+use crate::reply::say;
 use indexes::Index;
 use keepers::Keeper;
 use sheets::{Open, Step};
-use std::alloc::{AllocError, Global};
+use std::alloc::Global;
+use std::fmt::Write;
 
 // The longest text, in bytes.
 const LONGEST: usize = 65536;
@@ -32,16 +33,17 @@ pub fn print_record<K: Keeper + Drop, I: Index + Drop>(
     keeper: K,
     index: I,
     text: &[u8],
-) -> Result<Vec<u8>, AllocError>
-    ensures { IfOk result (λ s. Printout K.Keeper.limit text.now s.items) }
+) -> Result<String, NoMemory>
+    ensures { IfOk result (λ s. Printout Did (Fresh K.Keeper I.Index) (Counted K.Keeper) text.now (string_bytes s)) }
 {
     if text.len() > LONGEST {
-        return b"no 9 0\n".to_vec(heap);
+        return Ok(String::from_str(heap, "no 9 0\n")?);
     }
     let mut sheet = Open::new(heap, keeper, index)?;
     let mut table = vec![in heap; BLANK; CELLS]?;
     let mut out = answer_lines(heap, &mut sheet, table.as_mut_slice(), text)?;
-    put_one(&mut out, b"classes ", sheet.classes() as usize)?;
+    let classes = sheet.classes();
+    writeln!(out, "classes {classes}")?;
     Ok(out)
 }
 
@@ -51,13 +53,12 @@ fn answer_lines<K: Keeper, I: Index>(
     sheet: &mut Open<K, I>,
     table: &mut [Step],
     text: &[u8],
-) -> Result<Vec<u8>, AllocError>
-    requires whole { Whole K.Keeper I.Index sheet.old }
-    requires cells { length table.old ≡ 1024 }
+) -> Result<String, NoMemory>
+    requires { Whole K.Keeper I.Index sheet.old }
     ensures whole { Whole K.Keeper I.Index sheet.new }
-    ensures prints { IfOk result (λ s. Prints (Did K.Keeper.limit) (content sheet.old) (lines text.now) s.items (content sheet.new)) }
+    ensures prints { IfOk result (λ s. Prints Did sheet.old (lines text.now) (string_bytes s) sheet.new) }
 {
-    let mut out = Vec::new(heap);
+    let mut out = String::new(heap);
     let mut rest = text;
     while !rest.is_empty() {
         let (line, next) = cut_line(rest);
@@ -80,11 +81,4 @@ fn cut_line(text: &[u8]) -> (&[u8], &[u8])
         }
     }
     (text, &text[text.len()..])
-}
-
-// A text has at most one record, for each capacity of the keeper: the definitions leave no byte of it free.
-pub fn a_text_has_one_record() -> u8
-    ensures { OneRecord }
-{
-    0
 }

@@ -19,7 +19,7 @@ fn show(rt: &HostRuntime, name: &str) -> anyhow::Result<()> {
     let text = list.as_slice();
     let record = print_record(heap, Links::new(heap)?, Chained::new(heap)?, text)?;
     println!(rt; "== {name}")?;
-    rt.write_all(record.as_slice())?;
+    rt.write_all(record.as_bytes())?;
     let other = print_record(heap, Links::new(heap)?, Plain::new(heap)?, text)?;
     compare(rt, "parent links and the plain list", &record, &other)?;
     let other = print_record(heap, Relabel::new(heap)?, Chained::new(heap)?, text)?;
@@ -29,8 +29,8 @@ fn show(rt: &HostRuntime, name: &str) -> anyhow::Result<()> {
 }
 
 // Says whether two records are the same.
-fn compare(rt: &HostRuntime, parts: &str, record: &[u8], other: &[u8]) -> anyhow::Result<()> {
-    let verdict = if record == other {
+fn compare(rt: &HostRuntime, parts: &str, record: &String, other: &String) -> anyhow::Result<()> {
+    let verdict = if record.as_str() == other.as_str() {
         "the same"
     } else {
         "ANOTHER"

@@ -1,6 +1,3 @@
-pub mod Numbers
-pub mod Deciding
-pub mod Telling
-pub mod Stopping
-pub mod Adding
-pub mod Values
+mod Numbers
+mod Placing
+mod Writing

@@ -1,8 +1,8 @@
 -- What the checks of numbers say. Assumes nothing.
-use Rattle.std.proofs.Common.{◌≡◌, ℕ, ◌+◌, ◌<◌, ◌≤◌, Bool, true, false, ◌||◌, eqb, ltb, ◌⊎◌, List, [], ◌∷◌, length, All, sym, refl, ap, ◌∙◌, inl, inr, ⊎_elim, arith}
-use Rattle.std.proofs.lemmas.Bool.{or_parts, eqb-true, eqb-false, ltb-true, ltb-false, both_ways, cases_Bool}
+use Rattle.std.proofs.Common.{◌≡◌, ℕ, ◌+◌, ◌<◌, ◌≤◌, Bool, true, false, cond, ◌||◌, eqb, ltb, leb, List, [], ◌∷◌, length, None, All, sym, refl, ap, ◌∙◌, arith}
+use Rattle.std.proofs.lemmas.Bool.{or_parts, or_from, eqb-false, ltb-false, cond-false, le-ltb, lt-leb}
 use Rattle.keepers.specs.Meaning.{Upto}
-use Rattle.sheets.specs.Checks.{absent, any_absent, Both}
+use Rattle.sheets.specs.Checks.{absent, any_absent, add_check}
 
 pub present : (n p : ℕ) → absent n p ≡ false → Upto n p
 present n p h =
@@ -11,29 +11,17 @@ present n p h =
     let b = ltb-false n p e.1 in
     (omega arith, omega arith)
 
-pub not_present : (n p : ℕ) → absent n p ≡ true → ¬ Upto n p
-not_present n p h u =
-    ⊎_elim
-    (λ e. let a = eqb-true p 0 e in omega (arith, a, u.0))
-    (λ e. ⊎_elim
-    (λ t. let b = ltb-true n p t in omega (arith, b, u.1))
-    (λ t. both_ways (absent n p) (ap (λ (b : Bool). b || ltb n p) e ∙ t) h)
-    (cases_Bool (ltb n p)))
-    (cases_Bool (eqb p 0))
-
 pub all_present : (n : ℕ) (ps : List ℕ) → any_absent n ps ≡ false → All (Upto n) ps
 all_present n [] h = tt
 all_present n (p ∷ ps) h =
     let e = or_parts (absent n p) (any_absent n ps) h in
     (present n p e.0, all_present n ps e.1)
 
-pub not_all_present : (n : ℕ) (ps : List ℕ) → any_absent n ps ≡ true → ¬ All (Upto n) ps
-not_all_present n [] h a = both_ways false refl h
-not_all_present n (p ∷ ps) h a =
-    ⊎_elim
-    (λ e. not_present n p e a.0)
-    (λ e. not_all_present n ps (ap (λ (b : Bool). b || any_absent n ps) (sym e) ∙ h) a.1)
-    (cases_Bool (absent n p))
+pub both_present : (n a b : ℕ) → (absent n a || absent n b) ≡ false → Upto n a × Upto n b
+both_present n a b h = let e = or_parts (absent n a) (absent n b) h in (present n a e.0, present n b e.1)
 
-pub both_present : (n a b : ℕ) → absent n a ≡ false → absent n b ≡ false → Both n a b
-both_present n a b h k = (present n a h, present n b k)
+-- add passes its checks
+pub add_passes : (cap n : ℕ) (inputs : List ℕ) → length inputs ≤ 4 → any_absent n inputs ≡ false → n < 1024 → n < cap → add_check cap n inputs ≡ None
+add_passes cap n inputs short on few room =
+    cond-false _ _ _ (le-ltb 4 (length inputs) short)
+    ∙ (cond-false _ _ _ on ∙ cond-false _ _ _ (or_from (leb 1024 n) (leb cap n) (lt-leb 1024 n few) (lt-leb cap n room)))

@@ -1,8 +1,8 @@
--- The checks that need no more than numbers, in their order. Assumes nothing.
-use Rattle.std.specs.Prelude.{◌≡◌, ℕ, ◌<◌, ◌≤◌, Bool, false, ◌||◌, List, [], ◌∷◌, ◌==◌, nat_lt}
+-- The checks of the calls that need no more than numbers, in their order. Assumes nothing.
+use Rattle.std.specs.Prelude.{ℕ, ◌<◌, ◌≤◌, Bool, false, cond, ◌||◌, List, [], ◌∷◌, length, Some, None, Option, ◌==◌, nat_le, nat_lt}
 use Rattle.keepers.specs.Meaning.{Upto}
 use Rattle.sheets.specs.declared.fault.SheetFault.{SheetFault}
-use Rattle.sheets.specs.declared.fault.SheetFault.TheVariants.{FewCells, NoPicture, Full, Contradiction, Inputs, Apart}
+use Rattle.sheets.specs.declared.fault.SheetFault.TheVariants.{FewCells, NoPicture, Full, Inputs}
 
 -- p is 0 or above the count n
 abbrev pub absent : ℕ → ℕ → Bool
@@ -13,21 +13,24 @@ abbrev pub any_absent : ℕ → List ℕ → Bool
 any_absent n [] = false
 any_absent n (p ∷ ps) = absent n p || any_absent n ps
 
--- both are pictures of n
-abbrev pub Both : ℕ → ℕ → ℕ → Type 0
-Both n a b = Upto n a × Upto n b
+-- add, on a sheet of n pictures whose keeper has the capacity cap: 5 for more than four inputs, then 2 for an input that is no picture, then 3 where
+-- there are 1,024 pictures or as many as the capacity
+abbrev pub add_check : ℕ → ℕ → List ℕ → Option SheetFault
+add_check cap n inputs =
+    cond (nat_lt 4 (length inputs)) (Some Inputs) (cond (any_absent n inputs) (Some NoPicture) (cond (nat_le 1024 n || nat_le cap n) (Some Full) None))
 
--- why the checks of an entry that come before the one for a contradiction stop it: too few cells, then a number that is no picture's, then no place
-abbrev pub Stopped : ℕ → ℕ → ℕ → ℕ → ℕ → SheetFault → Type 0
-Stopped cells n taken a b FewCells = cells < 1024
-Stopped cells n taken a b NoPicture = (1024 ≤ cells) × (¬ Both n a b)
-Stopped cells n taken a b Full = (1024 ≤ cells) × Both n a b × (2048 ≤ taken)
-Stopped cells n taken a b (Contradiction c) = ⊥
-Stopped cells n taken a b Inputs = ⊥
-Stopped cells n taken a b Apart = ⊥
+-- must: 2 where one of the two is no picture
+abbrev pub pair_check : ℕ → ℕ → ℕ → Option SheetFault
+pair_check n a b = cond (absent n a || absent n b) (Some NoPicture) None
 
--- what an entry has that passes them
+-- same and differ, before the check for a contradiction: 1 for fewer than 1,024 cells, then 2, then 3 where 2,048 entries are taken
+abbrev pub entry_check : ℕ → ℕ → ℕ → ℕ → ℕ → Option SheetFault
+entry_check cells n taken a b =
+    cond (nat_lt cells 1024) (Some FewCells) (cond (absent n a || absent n b) (Some NoPicture) (cond (nat_le 2048 taken) (Some Full) None))
+
+-- what an entry that passes these checks has
 pub record Passed (cells n taken a b : ℕ) : Type 0 where
   pub enough : 1024 ≤ cells
-  pub both : Both n a b
+  pub left_on : Upto n a
+  pub right_on : Upto n b
   pub place : taken < 2048

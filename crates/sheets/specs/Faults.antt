@@ -1,46 +1,26 @@
--- The refusals and answers of the calls, as those of the definitions. Assumes nothing.
-use Rattle.std.specs.Prelude.{ℕ, Bool, Ok, Err, Result}
-use Rattle.theory.specs.Calls.{Refusal, few_cells, no_picture, full, contradiction, many_inputs, apart, Answer, added, joined, noted, told, explained, valued, refused}
-use Rattle.sheets.specs.declared.answer.Added.{Added}
-use Rattle.sheets.specs.declared.answer.Joined.{Joined}
+-- The refusals of a sheet, by number and detail. Assumes nothing.
+use Rattle.std.specs.Prelude.{ℕ, Some, None, Ok, Err, Option, Result}
 use Rattle.sheets.specs.declared.fault.Clash.{Clash}
 use Rattle.sheets.specs.declared.fault.SheetFault.{SheetFault}
-use Rattle.sheets.specs.declared.fault.SheetFault.TheVariants.{FewCells, NoPicture, Full, Contradiction, Inputs, Apart}
+use Rattle.sheets.specs.declared.fault.SheetFault.TheVariants.{FewCells, NoPicture, Full, Contradiction, Inputs}
 
--- why a call is refused
-abbrev pub refusal_of : SheetFault → Refusal
-refusal_of FewCells = few_cells
-refusal_of NoPicture = no_picture
-refusal_of Full = full
-refusal_of (Contradiction c) = contradiction c.broken c.steps
-refusal_of Inputs = many_inputs
-refusal_of Apart = apart
+-- the number of a refusal
+abbrev pub fault_number : SheetFault → ℕ
+fault_number FewCells = 1
+fault_number NoPicture = 2
+fault_number Full = 3
+fault_number (Contradiction c) = 4
+fault_number Inputs = 5
 
--- the answer that a result is, where `says` tells what it is if it is no refusal
-abbrev pub reply : {X : Type 0} → (X → Answer) → Result X SheetFault → Answer
-reply says (Ok x) = says x
-reply says (Err f) = refused (refusal_of f)
+-- its detail: the broken entry for a contradiction, else 0
+abbrev pub fault_detail : SheetFault → ℕ
+fault_detail FewCells = 0
+fault_detail NoPicture = 0
+fault_detail Full = 0
+fault_detail (Contradiction c) = c.broken
+fault_detail Inputs = 0
 
--- what add answers
-abbrev pub add_reply : Result Added SheetFault → Answer
-add_reply r = reply (λ a. added a.number a.lowest) r
-
--- what same answers
-abbrev pub same_reply : Result Joined SheetFault → Answer
-same_reply r = reply (λ j. joined j.entry j.joins) r
-
--- what differ answers
-abbrev pub differ_reply : Result ℕ SheetFault → Answer
-differ_reply r = reply noted r
-
--- what must answers
-abbrev pub must_reply : Result Bool SheetFault → Answer
-must_reply r = reply told r
-
--- what why answers
-abbrev pub why_reply : Result ℕ SheetFault → Answer
-why_reply r = reply explained r
-
--- what value and apply answer
-abbrev pub value_reply : Result ℕ SheetFault → Answer
-value_reply r = reply valued r
+-- why a call was refused, if it was
+abbrev pub refused : {X : Type 0} → Result X SheetFault → Option SheetFault
+refused (Ok x) = None
+refused (Err f) = Some f

@@ -1,8 +1,7 @@
 pub mod Faults
-pub mod Content
+pub mod Table
 pub mod Checks
-pub mod Breaking
+pub mod Entries
 pub mod Whole
-pub mod Tables
-pub mod Values
-pub mod Locked
+pub mod Broken
+pub mod Told

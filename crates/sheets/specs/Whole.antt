@@ -1,35 +1,35 @@
 -- What holds of every sheet between two calls. Assumes nothing.
-use Rattle.std.specs.Prelude.{◌≡◌, ℕ, ◌≤◌, List, [], length, vec_items, vec_len, All, Option}
-use Rattle.keepers.specs.Meaning.{rep}
+use Rattle.std.specs.Prelude.{◌≡◌, ℕ, ◌≤◌, [], vec_items, vec_len, All}
+use Rattle.keepers.specs.Meaning.{class_count}
 use Rattle.keepers.specs.declared.keeper.Keeper.{Ghosts as Kept}
 use Rattle.indexes.specs.Meaning.{held}
 use Rattle.indexes.specs.declared.index.Index.{Ghosts as Found}
-use Rattle.theory.specs.Sheet.{Picture, Entry, Placed, Breaks}
-use Rattle.theory.specs.Reasons.{Derivation}
-use Rattle.closure.specs.declared.journal.Join.{Join}
-use Rattle.closure.specs.declared.picture.Note.{Note}
-use Rattle.closure.specs.Drawn.{reasons}
-use Rattle.closure.specs.Working.{Closes}
-use Rattle.closure.specs.Waiting.{Working, Idle, Exact}
+use Rattle.closure.specs.Working.{Ready, Inward, Booked}
+use Rattle.sheets.specs.Entries.{Placed}
 use Rattle.sheets.specs.declared.open.Open.{Open}
-use Rattle.sheets.specs.Content.{pictures_on, entries_on}
 
--- A sheet at rest, by its keeper's capacity and representatives, its pictures and entries, its notes, its index's map and its journal.
-pub record Rests (cap : ℕ) (rs : List ℕ) (P : List Picture) (E : List Entry) (N : List Note) (m : ℕ → List ℕ → Option ℕ) (J : List Join) : Type 0 where
-  -- two pictures are in one class exactly when the congruence closure of the pictures and the entries taken has them so
-  pub closes : Closes P E (rep rs)
-  -- the index gives, for each signature borne by a picture, one picture that bears it, and nothing for any other
-  pub exact : Exact (rep rs) P m
-  -- no `differ` entry is broken, so some reading satisfies the entries
-  pub unbroken : All (λ e. ¬ Breaks P E e) E
-  -- the entries speak of pictures on the sheet, and the keeper has room for these
-  pub placed : All (Placed P) E
-  pub room : length P ≤ cap
-  -- the journal is a reason chain, it tells the classes, and no picture waits
-  pub derived : Derivation P E [] (reasons J)
-  pub working : Working rs P N m J
-  pub idle : Idle P N
+-- the keeper counts the pictures, and has room for them; the index leads to pictures of the sheet; the journal has at most as many joins as classes
+-- were lost; and the entries speak of pictures of the sheet
+pub record Whole {X Y : Type 0} (kept : Kept X) (found : Found Y) (o : Open X Y) : Type 0 where
+  pub ready : Ready (kept.reps o.keeper) (vec_items o.pictures)
+  pub room : vec_len o.pictures ≤ kept.limit
+  pub inward : Inward (vec_len o.pictures) (held (found.leads o.index))
+  pub booked : Booked (kept.reps o.keeper) (vec_len o.journal)
+  pub placed : All (Placed (vec_len o.pictures)) (vec_items o.entries)
 
--- A sheet is whole: it rests, whatever its keeper and index are.
-abbrev pub Whole : {X Y : Type 0} → Kept X → Found Y → Open X Y → Type 0
-Whole kept found o = Rests kept.limit (kept.reps o.keeper) (pictures_on o) (entries_on o) (vec_items o.notes) (held (found.leads o.index)) (vec_items o.journal)
+-- two sheets mean the same: the same representatives, signatures, pictures and entries
+pub record Alike {X Y : Type 0} (kept : Kept X) (found : Found Y) (o o' : Open X Y) : Type 0 where
+  pub classes : kept.reps o'.keeper ≡ kept.reps o.keeper
+  pub leads : found.leads o'.index ≡ found.leads o.index
+  pub pictures : vec_items o'.pictures ≡ vec_items o.pictures
+  pub entries : vec_items o'.entries ≡ vec_items o.entries
+
+-- a sheet that was just put together: it has no picture and no entry
+pub record Fresh {X Y : Type 0} (kept : Kept X) (found : Found Y) (o : Open X Y) : Type 0 where
+  pub whole : Whole kept found o
+  pub no_picture : vec_items o.pictures ≡ []
+  pub no_entry : vec_items o.entries ≡ []
+
+-- n is the number of classes that the sheet's keeper has
+abbrev pub Counted : {X Y : Type 0} → Kept X → Open X Y → ℕ → Type 0
+Counted kept o n = n ≡ class_count (kept.reps o.keeper)

@@ -1,5 +1,5 @@
 ghost use Rattle.std.specs.Prelude.{◌≡◌};
-ghost use Rattle.sheets.specs.Breaking.{left_of, right_of};
+ghost use Rattle.sheets.specs.Entries.{left_of, right_of};
 
 // What a host tells of two pictures.
 #[derive(Clone, Copy, PartialEq, Eq, Debug)]

@@ -1,6 +1,5 @@
 ghost use Rattle.std.specs.Prelude.{◌≡◌};
-ghost use Rattle.theory.specs.Calls.{number, detail};
-ghost use Rattle.sheets.specs.Faults.{refusal_of};
+ghost use Rattle.sheets.specs.Faults.{fault_number, fault_detail};
 
 // A contradiction: the lowest `differ` entry whose two pictures are forced to be the same, the refused entry counted in, and the number of steps of
 // the chain that was written to show it.
@@ -23,14 +22,12 @@ pub enum SheetFault {
     Contradiction(Clash),
     // more than four inputs
     Inputs,
-    // the two pictures are not in one class
-    Apart,
 }
 
 impl SheetFault {
     // The number of the refusal.
     pub fn number(self) -> u8
-        ensures { result ≡ number (refusal_of self) }
+        ensures { result ≡ fault_number self }
     {
         match self {
             SheetFault::FewCells => 1,
@@ -38,13 +35,12 @@ impl SheetFault {
             SheetFault::Full => 3,
             SheetFault::Contradiction(_) => 4,
             SheetFault::Inputs => 5,
-            SheetFault::Apart => 6,
         }
     }
 
     // Its detail: the broken entry of a contradiction, else 0.
     pub fn detail(self) -> u16
-        ensures { result ≡ detail (refusal_of self) }
+        ensures { result ≡ fault_detail self }
     {
         match self {
             SheetFault::Contradiction(clash) => clash.broken,
@@ -52,7 +48,6 @@ impl SheetFault {
             SheetFault::NoPicture => 0,
             SheetFault::Full => 0,
             SheetFault::Inputs => 0,
-            SheetFault::Apart => 0,
         }
     }
 }

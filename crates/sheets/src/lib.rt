@@ -6,14 +6,13 @@ pub mod answer;
 pub mod fault;
 // what an entry says
 pub mod entry;
+// the host's step table
+pub mod step;
 // the sheet that can be told pictures and entries
 pub mod open;
-// the sheet that shows its values
-pub mod locked;
 
 pub use answer::{Added, Joined};
 pub use entry::Entry;
 pub use fault::{Clash, SheetFault};
-pub use locked::Locked;
 pub use open::Open;
-pub use reasons::Step;
+pub use step::Step;

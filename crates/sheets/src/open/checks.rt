@@ -1,6 +1,6 @@
-ghost use Rattle.std.specs.Prelude.{◌≡◌, ℕ, ◌+◌, ◌<◌, ◌≤◌, length, MatchResult};
-ghost use Rattle.sheets.specs.declared.fault.SheetFault.TheVariants.{NoPicture};
-ghost use Rattle.sheets.specs.Checks.{absent, any_absent, Both, Stopped, Passed};
+ghost use Rattle.std.specs.Prelude.{◌≡◌, ℕ, ◌+◌, ◌<◌, ◌≤◌, length, Some, None, MatchResult};
+ghost use Rattle.keepers.specs.Meaning.{Upto};
+ghost use Rattle.sheets.specs.Checks.{absent, any_absent, pair_check, entry_check, Passed};
 
 use crate::fault::SheetFault;
 
@@ -25,7 +25,7 @@ pub fn any_missing(n: usize, row: &[u16]) -> bool
 
 // The check of two picture numbers.
 pub fn check_pair(n: usize, a: u16, b: u16) -> Result<(), SheetFault>
-    ensures { MatchResult result (λ _. Both n a b) (λ e. (e ≡ NoPicture) × (¬ Both n a b)) }
+    ensures { MatchResult result (λ _. (pair_check n a b ≡ None) × Upto n a × Upto n b) (λ e. pair_check n a b ≡ Some e) }
 {
     if missing(n, a) || missing(n, b) {
         return Err(SheetFault::NoPicture);
@@ -35,7 +35,7 @@ pub fn check_pair(n: usize, a: u16, b: u16) -> Result<(), SheetFault>
 
 // The checks of an entry before the one for a contradiction, on a sheet of n pictures and so many entries taken. Answers the number it would have.
 pub fn check_entry(cells: usize, n: usize, taken: usize, a: u16, b: u16) -> Result<u16, SheetFault>
-    ensures { MatchResult result (λ k. (k ≡ taken + 1) × Passed cells n taken a b) (λ e. Stopped cells n taken a b e) }
+    ensures { MatchResult result (λ entry. (entry_check cells n taken a b ≡ None) × (entry ≡ taken + 1) × Passed cells n taken a b) (λ e. entry_check cells n taken a b ≡ Some e) }
 {
     if cells < 1024 {
         return Err(SheetFault::FewCells);

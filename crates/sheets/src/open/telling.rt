@@ -1,170 +1,134 @@
-ghost use Rattle.std.specs.Prelude.{◌≡◌, ℕ, ◌+◌, ◌<◌, ◌≤◌, List, [], ◌∷◌, ◌++◌, length, take, vec_len};
+ghost use Rattle.std.specs.Prelude.{◌≡◌, ℕ, ◌+◌, ◌<◌, ◌≤◌, length, vec_len, vec_capacity, All};
 ghost use Rattle.indexes.specs.Meaning.{held};
-ghost use Rattle.theory.specs.Sheet.{same, differ};
-ghost use Rattle.theory.specs.Calls.{tell, Answers, after};
-ghost use Rattle.theory.specs.Calls.{add as adding};
-ghost use Rattle.closure.specs.Drawn.{reasons};
-ghost use Rattle.closure.specs.Working.{Fresh, Grows, Any};
-ghost use Rattle.closure.specs.Waiting.{Working, Idle};
-ghost use Rattle.reasons.specs.Table.{Explained};
-ghost use Rattle.sheets.specs.Content.{content, pictures_on, entries_on};
-ghost use Rattle.sheets.specs.Faults.{add_reply, same_reply, differ_reply};
-ghost use Rattle.sheets.specs.Whole.{Whole};
-ghost use Rattle.sheets.specs.Tables.{ToldTable};
+ghost use Rattle.keepers.specs.Meaning.{Upto};
+ghost use Rattle.closure.specs.Working.{Ready, Inward, Booked, Progress};
+ghost use Rattle.sheets.specs.Entries.{Placed};
+ghost use Rattle.sheets.specs.Broken.{broken, FirstBroken};
 
-use crate::answer::{Added, Joined};
 use crate::entry::Entry;
-use crate::fault::{Clash, SheetFault};
-use crate::open::Open;
-use crate::open::breaking::first_broken;
-use crate::open::checks::{any_missing, check_entry};
-use closure::restoring::restore;
-use closure::rooting::{lowest, roots, together};
-use closure::settling::{settle, tie};
+use closure::restoring::restart;
+use closure::rooting::together;
+use closure::settling::tie;
 use closure::{Cause, Join, Note, Picture};
-use indexes::{Index, Row};
+use indexes::Index;
 use keepers::Keeper;
-use reasons::Step;
 
-impl<K: Keeper, I: Index> Open<K, I> {
-    // Adds a picture. Answers its number and the lowest number in its class.
-    pub fn add(&mut self, op: u16, inputs: &[u16]) -> Result<Added, SheetFault>
-        requires { Whole K.Keeper I.Index self.old }
-        ensures whole { Whole K.Keeper I.Index self.new }
-        ensures answer { Answers K.Keeper.limit (content self.old) (adding op inputs.now) (add_reply result) }
-        ensures after { content self.new ≡ after (content self.old) (adding op inputs.now) (add_reply result) }
-    {
-        let Some(row) = Row::new(inputs) else {
-            return Err(SheetFault::Inputs);
-        };
-        let n = self.pictures.len();
-        if any_missing(n, inputs) {
-            return Err(SheetFault::NoPicture);
-        }
-        if n >= 1024 {
-            return Err(SheetFault::Full);
-        }
-        match self.keeper.grow() {
-            Ok(number) => {
-                self.pictures.push_reserved(Picture { op, inputs: row });
-                let signature = roots(&mut self.keeper, &row);
-                self.notes.push_reserved(Note {
-                    row: signature,
-                    waits: true,
-                });
-                settle(
-                    &mut self.keeper,
-                    &mut self.index,
-                    self.pictures.as_slice(),
-                    self.notes.as_mut_slice(),
-                    &mut self.journal,
-                );
-                let lowest = lowest(&mut self.keeper, number);
-                Ok(Added { number, lowest })
-            }
-            Err(_) => Err(SheetFault::Full),
+// Whether an entry is a `differ` entry whose two pictures are in one class.
+fn is_broken<K: Keeper>(k: &mut K, entry: &Entry) -> bool
+    requires { Placed (length (reps k.old)) entry.now }
+    ensures answer { result ≡ broken (reps k.old) entry.now }
+    ensures same { reps k.new ≡ reps k.old }
+{
+    match entry {
+        Entry::Same(_, _) => false,
+        Entry::Differ(a, b) => together(k, *a, *b),
+    }
+}
+
+// The place of the first broken entry.
+pub fn first_broken<K: Keeper>(k: &mut K, entries: &[Entry]) -> Option<usize>
+    requires { All (Placed (length (reps k.old))) entries.now }
+    ensures answer { FirstBroken (reps k.old) entries.now result }
+    ensures same { reps k.new ≡ reps k.old }
+{
+    for i in 0..entries.len() {
+        if is_broken(k, &entries[i]) {
+            return Some(i);
         }
     }
+    None
+}
 
-    // Takes the entry that two pictures are the same. Answers its number and its joins.
-    pub fn same(&mut self, table: &mut [Step], a: u16, b: u16) -> Result<Joined, SheetFault>
-        requires { Whole K.Keeper I.Index self.old }
-        ensures whole { Whole K.Keeper I.Index self.new }
-        ensures answer { Answers K.Keeper.limit (content self.old) (tell (same a b) (length table.old)) (same_reply result) }
-        ensures after { content self.new ≡ after (content self.old) (tell (same a b) (length table.old)) (same_reply result) }
-        ensures table { ToldTable (pictures_on self.old) (entries_on self.old ++ same a b ∷ []) table.old table.new result }
-    {
-        let n = self.pictures.len();
-        let taken = self.entries.len();
-        let entry = check_entry(table.len(), n, taken, a, b)?;
-        let joined = self.journal.len();
-        tie(
-            &mut self.keeper,
-            &mut self.index,
-            self.pictures.as_slice(),
-            self.notes.as_mut_slice(),
-            &mut self.journal,
+// Joins the pictures of an entry, if it is a `same` entry.
+fn tell<K: Keeper, I: Index>(
+    k: &mut K,
+    index: &mut I,
+    pictures: &[Picture],
+    notes: &mut [Note],
+    journal: &mut Vec<Join>,
+    entry: &Entry,
+    number: u16,
+)
+    requires ready { Ready (reps k.old) pictures.now }
+    requires sized { length notes.old ≡ length pictures.now }
+    requires inward { Inward (length pictures.now) (held (leads index.old)) }
+    requires booked { Booked (reps k.old) (vec_len journal.old) }
+    requires room { 1024 ≤ vec_capacity journal.old }
+    requires placed { Placed (length pictures.now) entry.now }
+    ensures progress { Progress (reps k.old) (reps k.new) (vec_len journal.old) (vec_len journal.new) }
+    ensures inward { Inward (length pictures.now) (held (leads index.new)) }
+    ensures space { vec_capacity journal.new ≡ vec_capacity journal.old }
+{
+    match entry {
+        Entry::Same(left, right) => tie(
+            k,
+            index,
+            pictures,
+            notes,
+            journal,
             Join {
-                left: a,
-                right: b,
-                cause: Cause::Entry(entry),
+                left: *left,
+                right: *right,
+                cause: Cause::Entry(number),
             },
-        );
-        match first_broken(&mut self.keeper, self.entries.as_slice()) {
-            None => {
-                self.entries.push_reserved(Entry::Same(a, b));
-                Ok(Joined {
-                    entry,
-                    joins: (self.journal.len() - joined) as u16,
-                })
-            }
-            Some(i) => {
-                let broken = self.entries[i];
-                let steps = self.withdraw(table, broken.left(), broken.right(), joined);
-                Err(SheetFault::Contradiction(Clash {
-                    broken: i as u16 + 1,
-                    steps,
-                }))
-            }
-        }
+        ),
+        Entry::Differ(_, _) => {}
     }
+}
 
-    // Writes a chain that joins two pictures, and goes back to the first joins of the journal. Answers the number of steps.
-    fn withdraw(&mut self, table: &mut [Step], a: u16, b: u16, to: usize) -> u16
-        requires working { Working (K.Keeper.reps self.old.keeper) (pictures_on self.old) self.old.notes.items (held (I.Index.leads self.old.index)) self.old.journal.items }
-        requires fresh { Fresh (pictures_on self.old) self.old.journal.items }
-        requires limit { length (pictures_on self.old) ≤ K.Keeper.limit }
-        requires cells { 1024 ≤ length table.old }
-        ensures explained { Explained (pictures_on self.old) (reasons self.old.journal.items) a b result table.old table.new }
-        ensures working { Working (K.Keeper.reps self.new.keeper) (pictures_on self.old) self.new.notes.items (held (I.Index.leads self.new.index)) self.new.journal.items }
-        ensures idle { Idle (pictures_on self.old) self.new.notes.items }
-        ensures grows { Grows (pictures_on self.old) Any (take to self.old.journal.items) self.new.journal.items }
-        ensures content { content self.new ≡ content self.old }
-    {
-        let steps = self.explainer.explain(
-            table,
-            self.pictures.as_slice(),
-            self.journal.as_slice(),
-            a,
-            b,
+// Joins the pictures of each `same` entry, in order.
+fn retell<K: Keeper, I: Index>(
+    k: &mut K,
+    index: &mut I,
+    pictures: &[Picture],
+    notes: &mut [Note],
+    journal: &mut Vec<Join>,
+    entries: &[Entry],
+)
+    requires ready { Ready (reps k.old) pictures.now }
+    requires sized { length notes.old ≡ length pictures.now }
+    requires inward { Inward (length pictures.now) (held (leads index.old)) }
+    requires booked { Booked (reps k.old) (vec_len journal.old) }
+    requires room { 1024 ≤ vec_capacity journal.old }
+    requires placed { All (Placed (length pictures.now)) entries.now }
+    requires few { length entries.now ≤ 2048 }
+    ensures progress { Progress (reps k.old) (reps k.new) (vec_len journal.old) (vec_len journal.new) }
+    ensures inward { Inward (length pictures.now) (held (leads index.new)) }
+    ensures space { vec_capacity journal.new ≡ vec_capacity journal.old }
+{
+    for i in 0..entries.len() {
+        tell(
+            k,
+            index,
+            pictures,
+            notes,
+            journal,
+            &entries[i],
+            i as u16 + 1,
         );
-        restore(
-            &mut self.keeper,
-            &mut self.index,
-            self.pictures.as_slice(),
-            self.notes.as_mut_slice(),
-            &mut self.journal,
-            to,
-        );
-        self.explainer.cut(to);
-        steps
     }
+}
 
-    // Takes the entry that two pictures differ. Answers its number.
-    pub fn differ(&mut self, table: &mut [Step], a: u16, b: u16) -> Result<u16, SheetFault>
-        requires { Whole K.Keeper I.Index self.old }
-        ensures whole { Whole K.Keeper I.Index self.new }
-        ensures answer { Answers K.Keeper.limit (content self.old) (tell (differ a b) (length table.old)) (differ_reply result) }
-        ensures after { content self.new ≡ after (content self.old) (tell (differ a b) (length table.old)) (differ_reply result) }
-        ensures table { ToldTable (pictures_on self.old) (entries_on self.old ++ differ a b ∷ []) table.old table.new result }
-    {
-        let n = self.pictures.len();
-        let taken = self.entries.len();
-        let entry = check_entry(table.len(), n, taken, a, b)?;
-        if together(&mut self.keeper, a, b) {
-            let steps = self.explainer.explain(
-                table,
-                self.pictures.as_slice(),
-                self.journal.as_slice(),
-                a,
-                b,
-            );
-            return Err(SheetFault::Contradiction(Clash {
-                broken: entry,
-                steps,
-            }));
-        }
-        self.entries.push_reserved(Entry::Differ(a, b));
-        Ok(entry)
-    }
+// Makes the classes of the pictures and entries again, from nothing.
+pub fn rebuild<K: Keeper, I: Index>(
+    k: &mut K,
+    index: &mut I,
+    pictures: &[Picture],
+    notes: &mut [Note],
+    journal: &mut Vec<Join>,
+    entries: &[Entry],
+)
+    requires ready { Ready (reps k.old) pictures.now }
+    requires limit { length pictures.now ≤ limit }
+    requires sized { length notes.old ≡ length pictures.now }
+    requires room { 1024 ≤ vec_capacity journal.old }
+    requires placed { All (Placed (length pictures.now)) entries.now }
+    requires few { length entries.now ≤ 2048 }
+    ensures ready { Ready (reps k.new) pictures.now }
+    ensures inward { Inward (length pictures.now) (held (leads index.new)) }
+    ensures booked { Booked (reps k.new) (vec_len journal.new) }
+    ensures space { vec_capacity journal.new ≡ vec_capacity journal.old }
+{
+    restart(k, index, pictures, notes, journal);
+    retell(k, index, pictures, notes, journal, entries);
 }

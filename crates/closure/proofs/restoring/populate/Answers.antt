@@ -1,6 +1,6 @@
 use Rattle.std.proofs.Common.{◌≡◌, ℕ, ◌+◌, ◌<◌, ◌≤◌, List, [], ◌∷◌, ◌++◌, length, sym, ap, ◌∙◌, ap₂, arith}
 use Rattle.std.proofs.lemmas.List.FromFn.{length-range_with_len}
-use Rattle.closure.proofs.Replays.{counting_more}
+use Rattle.closure.proofs.Counts.{counting_more}
 use Rattle.closure.proofs.restoring.populate.Goals as goal
 
 pub unreachable-requires : goal.unreachable-requires

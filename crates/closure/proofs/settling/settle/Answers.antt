@@ -1,70 +1,43 @@
-use Rattle.std.proofs.Common.{◌≡◌, ℕ, ◌-◌, ◌<◌, ◌≤◌, List, [], ◌∷◌, ◌++◌, length, vec_items, vec_len, sym, ap, ◌∙◌, subst, arith}
-use Rattle.std.proofs.lemmas.List.{length-map, length_push}
-use Rattle.keepers.specs.Meaning.{rep}
-use Rattle.indexes.specs.Meaning.{held}
-use Rattle.theory.specs.Sheet.{Picture}
-use Rattle.closure.specs.declared.journal.Join.{Join}
-use Rattle.closure.specs.Drawn.{drawn, sheet}
-use Rattle.closure.specs.Working.{Apart, Grows, Any}
-use Rattle.closure.specs.Waiting.{Working}
-use Rattle.closure.proofs.Journals.{grows_none, grows_join, twins_fit, twins_are_apart}
+use Rattle.std.proofs.Common.{◌≡◌, ℕ, ◌+◌, ◌<◌, ◌≤◌, List, length, vec_len, sym, ap, ◌∙◌, subst, arith}
+use Rattle.keepers.specs.Meaning.{Unites, class_count}
+use Rattle.closure.specs.Working.{Apart, Progress}
+use Rattle.closure.proofs.Counts.{joined_progress, progress_then, progress_booked, apart_room}
 use Rattle.closure.proofs.settling.settle.Goals as goal
-
-pub sweep-requires : goal.sweep-requires
-sweep-requires g c =
-    let w = c.loop-join.invariant.0 in
-    let l = length-map c.args.pictures.now drawn in
-    record { ready = w.ready; going = w.going; sized = w.going.sized ∙ l; few = omega (arith, w.ready.few, l) }
 
 pub merge-requires : goal.merge-requires
 merge-requires g c =
-    let w = c.loop-join.invariant.0 in
-    let P = sheet c.args.pictures.now in
+    let k = g.K.Keeper in
+    let rs = k.reps c.loop-join.k in
     let same = c.sweep.ensures.same in
-    let m = held (g.I.Index.leads c.sweep.new.index) in
-    let J = vec_items c.loop-join.journal in
-    let apart = twins_are_apart (g.K.Keeper.reps c.loop-join.k) P c.in-Some.join c.in-Some.ensures.swept.0 in
+    let a : Apart rs c.in-Some.join = c.in-Some.ensures.found in
+    let p = c.loop-join.invariant.0 in
+    let b = progress_booked _ _ _ _ p c.requires.booked in
+    let r = apart_room c.in-Some.join (vec_len c.loop-join.journal) rs (g.met.K.Keeper.settled c.loop-join.k) a b in
     record {
-      working = subst (λ (rs : List ℕ). Working rs P c.sweep.new.notes m J) (sym same) (record { ready = w.ready; books = w.books; going = c.sweep.ensures.going });
-      apart = subst (λ (rs : List ℕ). Apart rs P c.in-Some.join) (sym same) apart;
-      room = c.loop-join.invariant.2;
+      apart = subst (λ (ts : List ℕ). Apart ts c.in-Some.join) (sym same) a;
+      sized = omega arith;
+      room = omega (arith, r, p.counted, c.requires.ready.counted, c.requires.ready.few, c.requires.room, c.loop-join.invariant.2);
     }
-
-pub loop-join-init : goal.loop-join-init
-loop-join-init g c = (c.requires.working, grows_none (sheet c.args.pictures.now) Any (vec_items c.args.journal.now), c.requires.room)
 
 pub loop-join-smaller : goal.loop-join-smaller
 loop-join-smaller g c =
-    let few = c.merge.ensures.working.books.few in
-    let l = length-map c.args.pictures.now drawn in
-    let n = ap length c.merge.ensures.items ∙ length_push (vec_items c.loop-join.journal) c.in-Some.join in
-    omega (arith, few, l, n, c.loop-join.journal.ok, c.merge.new.journal.ok)
+    let k = g.K.Keeper in
+    let same = c.sweep.ensures.same in
+    let a = c.in-Some.ensures.found in
+    let u = subst (λ (ts : List ℕ). Unites c.in-Some.join.left c.in-Some.join.right ts (k.reps c.merge.new.k)) same c.merge.ensures.unites in
+    let p = joined_progress c.in-Some.join 0 (k.reps c.loop-join.k) (k.reps c.merge.new.k) (g.met.K.Keeper.settled c.loop-join.k) a u in
+    omega (arith, p.balance)
 
 pub loop-join-preserved : goal.loop-join-preserved
 loop-join-preserved g c =
-    let w = c.loop-join.invariant.0 in
-    let P = sheet c.args.pictures.now in
-    let rs = g.K.Keeper.reps c.loop-join.k in
-    let J = vec_items c.loop-join.journal in
-    let j = c.in-Some.join in
-    let t = c.in-Some.ensures.swept in
-    let apart = twins_are_apart rs P j t.0 in (
-      c.merge.ensures.working,
-      subst (Grows P Any (vec_items c.args.journal.now)) (sym c.merge.ensures.items)
-          (grows_join rs P Any (vec_items c.args.journal.now) J j w.books apart (λ E q. twins_fit rs P J j w.ready w.books t.0 t.1 E) c.loop-join.invariant.1),
-      c.merge.ensures.room,
-    )
-
-pub returns : goal.returns
-returns g c =
-    let w = c.loop-join.invariant.0 in
-    let P = sheet c.args.pictures.now in
+    let k = g.K.Keeper in
     let same = c.sweep.ensures.same in
-    let m = held (g.I.Index.leads c.sweep.new.index) in
-    let J = vec_items c.loop-join.journal in
-    record {
-      working = subst (λ (rs : List ℕ). Working rs P c.sweep.new.notes m J) (sym same) (record { ready = w.ready; books = w.books; going = c.sweep.ensures.going });
-      idle = c.in-default.ensures.swept;
-      grows = c.loop-join.invariant.1;
-      room = c.loop-join.invariant.2;
-    }
+    let a = c.in-Some.ensures.found in
+    let j : ℕ = vec_len c.loop-join.journal in
+    let u = subst (λ (ts : List ℕ). Unites c.in-Some.join.left c.in-Some.join.right ts (k.reps c.merge.new.k)) same c.merge.ensures.unites in
+    let p = joined_progress c.in-Some.join j (k.reps c.loop-join.k) (k.reps c.merge.new.k) (g.met.K.Keeper.settled c.loop-join.k) a u in
+    let q = subst (λ (n : ℕ). Progress (k.reps c.loop-join.k) (k.reps c.merge.new.k) j n) (sym c.merge.ensures.len) p in (
+      progress_then _ _ _ _ _ _ c.loop-join.invariant.0 q,
+      c.merge.ensures.inward _ c.sweep.ensures.inward,
+      c.merge.ensures.space ∙ c.loop-join.invariant.2,
+    )

@@ -1,15 +1,14 @@
-use Rattle.std.proofs.Common.{◌-◌, ◌≤◌, length, vec_items, vec_len, vec_capacity}
+use Rattle.std.proofs.Common.{◌≡◌, ◌≤◌, length, vec_len, vec_capacity}
+use Rattle.keepers.specs.Meaning.{class_count}
 use Rattle.indexes.specs.Meaning.{held}
-use Rattle.closure.specs.Drawn.{sheet}
-use Rattle.closure.specs.Working.{Grows, Any}
-use Rattle.closure.specs.Waiting.{Working}
+use Rattle.closure.specs.Working.{Inward, Progress}
 use Rattle.closure.proofs.settling.settle.Given as goal
 
 abbrev pub invariant-loop-join : goal.invariant-loop-join
 invariant-loop-join g l =
-    Working (g.K.Keeper.reps l.k) (sheet l.pictures) l.notes (held (g.I.Index.leads l.index)) (vec_items l.journal)
-    × Grows (sheet l.pictures) Any (vec_items l.initial.journal) (vec_items l.journal)
-    × (1024 ≤ vec_capacity l.journal)
+    Progress (g.K.Keeper.reps l.initial.k) (g.K.Keeper.reps l.k) (vec_len l.initial.journal) (vec_len l.journal)
+    × Inward (length l.pictures) (held (g.I.Index.leads l.index))
+    × (vec_capacity l.journal ≡ vec_capacity l.initial.journal)
 
 abbrev pub decreases-loop-join : goal.decreases-loop-join
-decreases-loop-join g l = length l.pictures - vec_len l.journal
+decreases-loop-join g l = class_count (g.K.Keeper.reps l.k)

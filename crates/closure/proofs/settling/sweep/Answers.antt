@@ -1,62 +1,51 @@
-use Rattle.std.proofs.Common.{◌≡◌, ℕ, ◌+◌, ◌<◌, ◌≤◌, true, List, length, get_or, Some, None, Option, sym, refl, ap, ◌∙◌, subst, arith}
-use Rattle.std.proofs.lemmas.List.{length-map}
-use Rattle.keepers.specs.Meaning.{rep, Within}
+use Rattle.std.proofs.Common.{◌≡◌, ℕ, ◌+◌, ◌<◌, ◌≤◌, List, length, get_or, sym, ap, ◌∙◌, subst, arith}
+use Rattle.std.proofs.lemmas.List.Elements.{All-get_or}
+use Rattle.keepers.specs.Meaning.{rep, Within, Upto}
 use Rattle.indexes.specs.Meaning.{held}
-use Rattle.closure.specs.declared.picture.Note.{Note}
-use Rattle.closure.specs.Drawn.{drawn, sheet}
-use Rattle.closure.specs.Waiting.{Going, Looked, waits}
-use Rattle.closure.proofs.Sweeps.{own_looked, leads_looked, room_waiting, looked_none, looked_some}
+use Rattle.closure.specs.Working.{Fed, Inward}
+use Rattle.closure.proofs.settling.sweep.Goals.{then-notes-i+in-Posted, else-notes-i}
 use Rattle.closure.proofs.settling.sweep.Goals as goal
 
-pub look-requires : goal.look-requires
-look-requires g c =
-    let ps = c.args.pictures.now in
-    let rs = g.K.Keeper.reps c.args.k.now in
-    let es = g.I.Index.leads c.loop-i.index in
-    let N = c.loop-i.notes in
+pub visit-requires : goal.visit-requires
+visit-requires g c =
     let same = c.loop-i.invariant.0 in
+    let n : length (g.K.Keeper.reps c.loop-i.k) ≡ length c.args.pictures.now = ap length same ∙ c.requires.ready.counted in
     let item = c.index-pictures-i.result in
-    let note = c.index-notes-i.result in
-    let at : (x : ℕ) → Within rs x → Within (g.K.Keeper.reps c.loop-i.k) x = λ x w. subst (λ (ts : List ℕ). Within ts x) (sym same) w in
+    let fed = All-get_or (Fed (length c.args.pictures.now)) c.args.pictures.now c.loop-i.i item (omega arith) c.requires.ready.fed in
     record {
-      on = at (c.loop-i.i + 1) (own_looked ps rs c.loop-i.i c.requires.ready c.loop-i-test.true);
-      inward = λ o w q h. at q (leads_looked ps rs es N c.requires.ready c.loop-i.invariant.1 o w q h);
-      room = λ late. room_waiting ps rs es N c.loop-i.i item note c.requires.ready c.loop-i.invariant.1 c.loop-i-test.true c.index-pictures-i.is c.index-notes-i.is
-          (subst (λ (n : Note). n.waits ≡ true) (sym c.index-notes-i.is) late) (g.met.I.Index.once c.loop-i.index);
+      on = (omega arith, omega (arith, n));
+      fed = subst (λ (k : ℕ). Fed k item) (sym n) (subst (Fed (length c.args.pictures.now)) (sym c.index-pictures-i.is) fed);
+      inward = subst (λ (k : ℕ). Inward k (held (g.I.Index.leads c.loop-i.index))) (sym n) c.loop-i.invariant.1;
     }
 
-pub returns-in-Some : goal.returns-in-Some
-returns-in-Some g c =
-    let rs = g.K.Keeper.reps c.args.k.now in
+pub returns-in-Twin : goal.returns-in-Twin
+returns-in-Twin g c =
     let same = c.loop-i.invariant.0 in
-    let h = subst (λ (n : Note). Looked (rep rs) (held (g.I.Index.leads c.loop-i.index)) (held (g.I.Index.leads c.look.new.index)) c.index-pictures-i.result.op (c.loop-i.i + 1) n c.look.new.note (Some c.in-Some.q))
-    (sym c.index-notes-i.is)
-    (subst (λ (ts : List ℕ). Looked (rep ts) (held (g.I.Index.leads c.loop-i.index)) (held (g.I.Index.leads c.look.new.index)) c.index-pictures-i.result.op (c.loop-i.i + 1) (get_or c.loop-i.notes c.loop-i.i c.index-notes-i.result) c.look.new.note (Some c.in-Some.q))
-    same c.in-Some.ensures.looked) in
-    let s = looked_some c.args.pictures.now rs (g.I.Index.leads c.loop-i.index) c.loop-i.notes c.loop-i.i c.index-pictures-i.result c.index-notes-i.result c.look.new.note
-    (held (g.I.Index.leads c.look.new.index)) c.requires.ready c.loop-i.invariant.1 c.loop-i-test.true c.index-pictures-i.is c.index-notes-i.is c.in-Some.q h in
+    let n : length (g.K.Keeper.reps c.loop-i.k) ≡ length c.args.pictures.now = ap length same ∙ c.requires.ready.counted in
+    let seen = c.in-Twin.ensures.seen in
+    let p : ℕ = c.loop-i.i + 1 in
     record {
-      same = c.look.ensures.same ∙ same;
-      going = s.1;
-      swept = (s.0, refl);
+      same = c.visit.ensures.same ∙ same;
+      found = record {
+        left_on = (omega arith, omega (arith, c.requires.ready.counted));
+        right_on = subst (λ (rs : List ℕ). Within rs c.in-Twin.q) same seen.0;
+        apart = λ e. seen.1 (subst (λ (rs : List ℕ). rep rs p ≡ rep rs c.in-Twin.q) (sym same) e);
+      };
+      inward = subst (λ (k : ℕ). Inward k (held (g.I.Index.leads c.visit.new.index))) n c.visit.ensures.inward;
     }
 
 pub loop-i-preserved : goal.loop-i-preserved
 loop-i-preserved g c =
-    let rs = g.K.Keeper.reps c.args.k.now in
     let same = c.loop-i.invariant.0 in
-    let h = subst (λ (n : Note). Looked (rep rs) (held (g.I.Index.leads c.loop-i.index)) (held (g.I.Index.leads c.look.new.index)) c.index-pictures-i.result.op (c.loop-i.i + 1) n c.look.new.note None)
-    (sym c.index-notes-i.is)
-    (subst (λ (ts : List ℕ). Looked (rep ts) (held (g.I.Index.leads c.loop-i.index)) (held (g.I.Index.leads c.look.new.index)) c.index-pictures-i.result.op (c.loop-i.i + 1) (get_or c.loop-i.notes c.loop-i.i c.index-notes-i.result) c.look.new.note None)
-    same c.in-default.ensures.looked) in
-    let s = looked_none c.args.pictures.now rs (g.I.Index.leads c.loop-i.index) c.loop-i.notes c.loop-i.i c.index-pictures-i.result c.index-notes-i.result c.look.new.note
-    (held (g.I.Index.leads c.look.new.index)) c.requires.ready c.loop-i.invariant.1 c.loop-i-test.true c.index-pictures-i.is c.index-notes-i.is h c.loop-i.invariant.2 in
-    (c.look.ensures.same ∙ same, s.0, s.1)
-
-pub returns : goal.returns
-returns g c =
-    record {
-      same = c.loop-i.invariant.0;
-      going = c.loop-i.invariant.1;
-      swept = λ p o. c.loop-i.invariant.2 p o.0 (omega (arith, o.1, length-map c.args.pictures.now drawn, c.loop-i-test.false));
-    }
+    let n : length (g.K.Keeper.reps c.loop-i.k) ≡ length c.args.pictures.now = ap length same ∙ c.requires.ready.counted in
+    elim c.if-notes-i.branch [
+      | then-notes-i+in-Posted w ↦ (
+        ap g.K.Keeper.reps w.k-is ∙ (w.visit.ensures.same ∙ same),
+        subst (λ i. Inward (length c.args.pictures.now) (held (g.I.Index.leads i))) (sym w.index-is)
+            (subst (λ (k : ℕ). Inward k (held (g.I.Index.leads w.visit.new.index))) n w.visit.ensures.inward),
+      )
+      | else-notes-i w ↦ (
+        ap g.K.Keeper.reps w.k-is ∙ same,
+        subst (λ i. Inward (length c.args.pictures.now) (held (g.I.Index.leads i))) (sym w.index-is) c.loop-i.invariant.1,
+      )
+    ]

@@ -1,13 +1,9 @@
-use Rattle.std.proofs.Common.{◌≡◌, ℕ, ◌≤◌, false}
-use Rattle.keepers.specs.Meaning.{rep}
+use Rattle.std.proofs.Common.{◌≡◌, length}
 use Rattle.indexes.specs.Meaning.{held}
-use Rattle.closure.specs.Drawn.{sheet}
-use Rattle.closure.specs.Waiting.{Going, waits}
+use Rattle.closure.specs.Working.{Inward}
 use Rattle.closure.proofs.settling.sweep.Given as goal
 
 abbrev pub invariant-loop-i : goal.invariant-loop-i
 invariant-loop-i g l =
-    let rs = g.K.Keeper.reps l.initial.k in
-    (g.K.Keeper.reps l.k ≡ rs)
-    × Going (rep rs) (sheet l.pictures) l.notes (held (g.I.Index.leads l.index))
-    × ((p : ℕ) → 1 ≤ p → p ≤ l.i → waits l.notes p ≡ false)
+    (g.K.Keeper.reps l.k ≡ g.K.Keeper.reps l.initial.k)
+    × Inward (length l.pictures) (held (g.I.Index.leads l.index))

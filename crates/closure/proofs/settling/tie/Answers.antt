@@ -1,66 +1,59 @@
-use Rattle.std.proofs.Common.{◌≡◌, ℕ, ◌<◌, ◌≤◌, List, [], ◌∷◌, ◌++◌, vec_items, sym, ap, ◌∙◌, subst, arith}
-use Rattle.std.proofs.lemmas.Bool.{eqb-true, eqb-false}
-use Rattle.keepers.specs.Meaning.{rep}
-use Rattle.indexes.specs.Meaning.{held}
-use Rattle.theory.specs.Sheet.{Entry}
-use Rattle.theory.specs.Reasons.{Fits}
+use Rattle.std.proofs.Common.{◌≡◌, ℕ, ◌+◌, ◌<◌, ◌≤◌, List, length, vec_len, sym, ap, ◌∙◌, subst, arith}
+use Rattle.std.proofs.lemmas.Bool.{eqb-false}
+use Rattle.keepers.specs.Meaning.{Settled, Unites}
 use Rattle.closure.specs.declared.journal.Join.{Join}
-use Rattle.closure.specs.Drawn.{sheet, reasons, reason_of}
-use Rattle.closure.specs.Working.{Apart, Grows, Any}
-use Rattle.closure.specs.Waiting.{Working}
-use Rattle.closure.proofs.Journals.{within, grows_none, grows_join, grows_then, grows_coarser}
+use Rattle.closure.specs.Working.{Ready, Apart, Progress}
+use Rattle.closure.proofs.Counts.{joined_progress, progress_then, progress_booked, progress_ready, apart_room, no_progress}
 use Rattle.closure.proofs.settling.tie.Goals as goal
 
-pub together-requires : goal.together-requires
-together-requires g c =
-    let r = c.requires.working.ready in
-    let rs = g.K.Keeper.reps c.args.k.now in
-    let P = sheet c.args.pictures.now in
-    record { on = (within rs P r c.args.join.left c.requires.on.0, within rs P r c.args.join.right c.requires.on.1) }
-
-pub returns-then-together : goal.returns-then-together
-returns-then-together g c =
-    let P = sheet c.args.pictures.now in
-    let J = vec_items c.args.journal.now in
-    let j = c.args.join in
-    let same = c.together.ensures.same in
-    record {
-      working = subst (λ (rs : List ℕ). Working rs P c.args.notes.now (held (g.I.Index.leads c.args.index.now)) J) (sym same) c.requires.working;
-      idle = c.requires.idle;
-      grows = grows_none P (λ E. Fits P E (reasons J) (reason_of j)) J;
-      joined = subst (λ (rs : List ℕ). rep rs j.left ≡ rep rs j.right) (sym same) (eqb-true _ _ (sym c.together.ensures.answer ∙ c.if-together.true));
-      room = c.requires.room;
-    }
+-- one join, whose journal is then one longer
+joined : (j : Join) (n n' : ℕ) (rs ts rs' : List ℕ) → ts ≡ rs → n' ≡ n + 1 → Settled rs → Apart rs j → Unites j.left j.right ts rs' → Progress rs rs' n n'
+joined j n n' rs ts rs' same len s a u =
+    subst (Progress rs rs' n) (sym len) (joined_progress j n rs rs' s a (subst (λ (xs : List ℕ). Unites j.left j.right xs rs') same u))
 
 pub merge-requires : goal.merge-requires
 merge-requires g c =
-    let P = sheet c.args.pictures.now in
-    let J = vec_items c.args.journal.now in
-    let j = c.args.join in
-    let same = c.together.ensures.same in
-    let apart : Apart (g.K.Keeper.reps c.args.k.now) P j =
-    record { left_on = c.requires.on.0; right_on = c.requires.on.1; apart = eqb-false _ _ (sym c.together.ensures.answer ∙ c.if-together.false) } in
+    let rs = g.K.Keeper.reps c.args.k.now in
+    let a : Apart rs c.args.join = record {
+      left_on = (c.requires.on.0.0, omega (arith, c.requires.on.0.1, c.requires.ready.counted));
+      right_on = (c.requires.on.1.0, omega (arith, c.requires.on.1.1, c.requires.ready.counted));
+      apart = eqb-false _ _ (sym c.together.ensures.answer ∙ c.if-together.false);
+    } in
+    let r = apart_room c.args.join (vec_len c.args.journal.now) rs (g.met.K.Keeper.settled c.args.k.now) a c.requires.booked in
     record {
-      working = subst (λ (rs : List ℕ). Working rs P c.args.notes.now (held (g.I.Index.leads c.args.index.now)) J) (sym same) c.requires.working;
-      apart = subst (λ (rs : List ℕ). Apart rs P j) (sym same) apart;
-      room = c.requires.room;
+      apart = subst (λ (ts : List ℕ). Apart ts c.args.join) (sym c.together.ensures.same) a;
+      sized = c.requires.sized;
+      room = omega (arith, r, c.requires.ready.counted, c.requires.ready.few, c.requires.room);
+    }
+
+pub settle-requires : goal.settle-requires
+settle-requires g c =
+    let rs = g.K.Keeper.reps c.args.k.now in
+    let a : Apart rs c.args.join = record {
+      left_on = (c.requires.on.0.0, omega (arith, c.requires.on.0.1, c.requires.ready.counted));
+      right_on = (c.requires.on.1.0, omega (arith, c.requires.on.1.1, c.requires.ready.counted));
+      apart = eqb-false _ _ (sym c.together.ensures.answer ∙ c.if-together.false);
+    } in
+    let p = joined c.args.join _ _ rs _ _ c.together.ensures.same c.merge.ensures.len (g.met.K.Keeper.settled c.args.k.now) a c.merge.ensures.unites in
+    record {
+      ready = progress_ready _ _ _ _ _ p c.requires.ready;
+      sized = omega arith;
+      inward = c.merge.ensures.inward _ c.requires.inward;
+      booked = progress_booked _ _ _ _ p c.requires.booked;
+      room = omega (arith, c.merge.ensures.space, c.requires.room);
     }
 
 pub returns : goal.returns
 returns g c =
-    let P = sheet c.args.pictures.now in
-    let J = vec_items c.args.journal.now in
-    let j = c.args.join in
     let rs = g.K.Keeper.reps c.args.k.now in
-    let apart : Apart rs P j =
-    record { left_on = c.requires.on.0; right_on = c.requires.on.1; apart = eqb-false _ _ (sym c.together.ensures.answer ∙ c.if-together.false) } in
-    let Q : List Entry → Type 0 = λ E. Fits P E (reasons J) (reason_of j) in
-    let first : Grows P Q J (vec_items c.merge.new.journal) =
-    subst (Grows P Q J) (sym c.merge.ensures.items) (grows_join rs P Q J J j c.requires.working.books apart (λ E q. q) (grows_none P Q J)) in
+    let a : Apart rs c.args.join = record {
+      left_on = (c.requires.on.0.0, omega (arith, c.requires.on.0.1, c.requires.ready.counted));
+      right_on = (c.requires.on.1.0, omega (arith, c.requires.on.1.1, c.requires.ready.counted));
+      apart = eqb-false _ _ (sym c.together.ensures.answer ∙ c.if-together.false);
+    } in
+    let p = joined c.args.join _ _ rs _ _ c.together.ensures.same c.merge.ensures.len (g.met.K.Keeper.settled c.args.k.now) a c.merge.ensures.unites in
     record {
-      working = c.settle.ensures.working;
-      idle = c.settle.ensures.idle;
-      grows = grows_then P Q J (vec_items c.merge.new.journal) (vec_items c.settle.new.journal) first c.settle.ensures.grows;
-      joined = grows_coarser _ _ P Any _ _ c.merge.ensures.working.books c.settle.ensures.working.books c.settle.ensures.grows j.left j.right c.requires.on.0 c.requires.on.1 c.merge.ensures.joined;
-      room = c.settle.ensures.room;
+      progress = progress_then _ _ _ _ _ _ p c.settle.ensures.progress;
+      inward = c.settle.ensures.inward;
+      space = c.settle.ensures.space ∙ c.merge.ensures.space;
     }

@@ -1,33 +1,30 @@
-use Rattle.std.proofs.Common.{◌≡◌, ℕ, ◌≤◌, List, length, Some, sym, refl, ap, ◌∙◌, inl, inr, arith}
-use Rattle.indexes.specs.Meaning.{held}
-use Rattle.std.proofs.lemmas.Bool.{eqb-true, eqb-false}
-use Rattle.closure.proofs.Sweeps.{entered}
+use Rattle.std.proofs.Common.{◌≡◌, ℕ, List, length, is_ok, sym, ap, ◌∙◌, subst}
+use Rattle.std.proofs.lemmas.Bool.{eqb-false}
+use Rattle.keepers.specs.Meaning.{rep, Within}
+use Rattle.closure.proofs.Inwards.{entered_inward}
 use Rattle.closure.proofs.settling.visit.Goals as goal
 
 pub together-requires : goal.together-requires
 together-requires g c =
-    record { on = (c.requires.inward _ _ c.in-Some.q (sym c.query.ensures ∙ c.in-Some.is), c.requires.on) }
-
-pub returns-then-together : goal.returns-then-together
-returns-then-together g c =
-    record {
-      same = c.together.ensures.same;
-      visited = inr ((c.in-Some.q, ap (held (g.I.Index.leads c.args.index.now) c.args.picture.now.op) (sym c.as-slice.ensures.value) ∙ (sym c.query.ensures ∙ c.in-Some.is), eqb-true _ _ (sym c.together.ensures.answer ∙ c.if-together.true)), λ q v. refl);
-    }
+    let same = c.roots-row.ensures.same in
+    let on = λ (x : ℕ) (w : Within (g.K.Keeper.reps c.args.k.now) x). subst (λ (rs : List ℕ). Within rs x) (sym same) w in
+    record { on = (on c.args.p c.requires.on, on c.in-Some.q (c.requires.inward _ _ c.in-Some.q (sym c.query.ensures ∙ c.in-Some.is))) }
 
 pub returns-else-together : goal.returns-else-together
 returns-else-together g c =
+    let same = c.roots-row.ensures.same in
+    let q = c.in-Some.q in
+    let ne = eqb-false _ _ (sym c.together.ensures.answer ∙ c.if-together.false) in
     record {
-      same = c.together.ensures.same;
-      visited = (ap (held (g.I.Index.leads c.args.index.now) c.args.picture.now.op) (sym c.as-slice.ensures.value) ∙ (sym c.query.ensures ∙ c.in-Some.is), eqb-false _ _ (sym c.together.ensures.answer ∙ c.if-together.false), λ q v. refl);
+      same = c.together.ensures.same ∙ same;
+      seen = (c.requires.inward _ _ q (sym c.query.ensures ∙ c.in-Some.is), λ e. ne (subst (λ (rs : List ℕ). rep rs c.args.p ≡ rep rs q) (sym same) e));
+      inward = c.requires.inward;
     }
 
 pub returns-in-None : goal.returns-in-None
 returns-in-None g c =
     record {
-      same = refl;
-      visited = inl (
-        ap (held (g.I.Index.leads c.args.index.now) c.args.picture.now.op) (sym c.as-slice.ensures.value) ∙ (sym c.query.ensures ∙ c.in-None.is),
-        entered (g.I.Index.leads c.args.index.now) _ c.args.picture.now.op c.args.p _ _ c.enter.result c.as-slice-in-None.ensures.value c.as-slice-in-None.ensures.short c.requires.room c.enter.ensures.answer c.enter.ensures.after,
-      );
+      same = c.roots-row.ensures.same;
+      seen = tt;
+      inward = entered_inward (length (g.K.Keeper.reps c.args.k.now)) c.args.p _ _ _ _ (is_ok c.enter.result) c.enter.ensures.after c.requires.on c.requires.inward;
     }

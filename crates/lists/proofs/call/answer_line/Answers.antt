@@ -5,4 +5,4 @@ use Rattle.lists.proofs.call.answer_line.Goals as goal
 pub make-call-requires : goal.make-call-requires
 make-call-requires g c =
     let l = c.in-ok-line.line in
-    record { whole = c.requires.whole; cells = c.requires.cells; takes = says_takes c.args.text.now l.letter (line_numbers l) c.in-ok-line.ensures }
+    record { whole = c.requires; takes = says_takes c.args.text.now l.letter (line_numbers l) c.in-ok-line.ensures }

@@ -1,169 +1,77 @@
-use Rattle.std.proofs.Common.{◌≡◌, ℕ, suc, ◌+◌, ◌-◌, ◌<◌, ◌≤◌, true, false, List, [], ◌∷◌, ◌++◌, map, length, take, drop, vec_items, vec_len, All, sym, refl, ap, ◌∙◌, subst, subst₂, inl, inr, arith}
-use Rattle.std.proofs.lemmas.List.Elements.{All-weaker}
-use Rattle.std.proofs.lemmas.List.{length-map, length_push, map-append}
-use Rattle.theory.specs.Sheet.{Picture, Entry, On, Lowest}
-use Rattle.theory.specs.Calls.{Content}
-use Rattle.keepers.specs.Meaning.{rep, Within}
+use Rattle.std.proofs.Common.{◌≡◌, ℕ, ◌+◌, ◌<◌, ◌≤◌, false, ◌≢◌, List, [], ◌∷◌, ◌++◌, length, vec_items, vec_len, All, sym, refl, ap, ◌∙◌, subst, arith}
+use Rattle.std.proofs.lemmas.List.{length_push}
+use Rattle.keepers.specs.Meaning.{Upto}
 use Rattle.indexes.specs.Rows.{cells_of}
 use Rattle.indexes.specs.Meaning.{held}
-use Rattle.closure.specs.declared.picture.Picture.{Picture as Held}
-use Rattle.closure.specs.declared.picture.Note.{Note}
-use Rattle.closure.specs.declared.journal.Join.{Join}
-use Rattle.closure.specs.Drawn.{drawn, sheet, reasons}
-use Rattle.closure.specs.Working.{Grows, Any}
-use Rattle.closure.specs.Waiting.{Working, Idle}
-use Rattle.closure.proofs.Growing.{grown_working}
-use Rattle.closure.proofs.Resting.{lowest_told}
-use Rattle.sheets.specs.Content.{pictures_on, entries_on, content}
+use Rattle.closure.specs.declared.picture.Picture.{Picture}
+use Rattle.closure.specs.Working.{Ready, Fed, Inward, Booked, Lowest}
+use Rattle.closure.proofs.Growing.{grown_ready, grown_inward, grown_booked}
+use Rattle.closure.proofs.Counts.{progress_ready, progress_booked}
 use Rattle.sheets.specs.Checks.{any_absent}
-use Rattle.sheets.specs.Whole.{Rests}
-use Rattle.sheets.proofs.Adding.{added_rests, added_closes, add_missing, add_full, add_added, on_all}
-use Rattle.sheets.proofs.Telling.{rests_same}
-use Rattle.sheets.proofs.Stopping.{lent}
+use Rattle.sheets.proofs.Numbers.{all_present, add_passes}
+use Rattle.sheets.proofs.Placing.{placed_more}
 use Rattle.sheets.proofs.open.Open.add.Goals as goal
-
-pub returns-then-any-missing : goal.returns-then-any-missing
-returns-then-any-missing g c =
-    let s = c.args.self.now in
-    let en : c.len-n.result ≡ length (pictures_on s) = c.len-n.ensures ∙ (s.pictures.ok.0 ∙ sym (length-map (vec_items s.pictures) drawn)) in
-    record {
-      whole = c.requires;
-      answer = add_missing g.K.Keeper.limit (content s) c.args.op c.len-n.result c.args.inputs.now en c.in-Some.ensures.1 (sym c.if-any-missing.ensures);
-      after = refl;
-    }
-
-pub returns-then-n-ge1024 : goal.returns-then-n-ge1024
-returns-then-n-ge1024 g c =
-    let s = c.args.self.now in
-    let en : c.len-n.result ≡ length (pictures_on s) = c.len-n.ensures ∙ (s.pictures.ok.0 ∙ sym (length-map (vec_items s.pictures) drawn)) in
-    record {
-      whole = c.requires;
-      answer = add_full g.K.Keeper.limit (content s) c.args.op c.len-n.result c.args.inputs.now en c.in-Some.ensures.1 (sym c.if-any-missing.ensures)
-          (inl (omega (arith, c.if-n-ge1024.true, en)));
-      after = refl;
-    }
-
-pub returns-in-Err : goal.returns-in-Err
-returns-in-Err g c =
-    let s = c.args.self.now in
-    let rs = g.K.Keeper.reps s.keeper in
-    let h = c.in-Err.ensures in
-    let en : c.len-n.result ≡ length (pictures_on s) = c.len-n.ensures ∙ (s.pictures.ok.0 ∙ sym (length-map (vec_items s.pictures) drawn)) in
-    record {
-      whole = rests_same g.K.Keeper.limit rs (g.K.Keeper.reps c.grow.new.self) (pictures_on s) (entries_on s) (vec_items s.notes) (held (g.I.Index.leads s.index)) (vec_items s.journal) h.2 c.requires;
-      answer = add_full g.K.Keeper.limit (content s) c.args.op c.len-n.result c.args.inputs.now en c.in-Some.ensures.1 (sym c.if-any-missing.ensures)
-          (inr (omega (arith, h.0, c.requires.working.ready.counted)));
-      after = refl;
-    }
-
-pub roots-signature-requires : goal.roots-signature-requires
-roots-signature-requires g c =
-    let s = c.args.self.now in
-    let P = pictures_on s in
-    let E = entries_on s in
-    let cap = g.K.Keeper.limit in
-    let rs = g.K.Keeper.reps s.keeper in
-    let rs' = g.K.Keeper.reps c.grow.new.self in
-    let N = vec_items s.notes in
-    let m = held (g.I.Index.leads s.index) in
-    let J = vec_items s.journal in
-    let is = c.args.inputs.now in
-    let n : ℕ = c.in-Ok.number in
-    let p : Held = record { op = c.args.op; inputs = c.in-Some.row } in
-    let x : Picture = drawn p in
-    let ei : x.inputs ≡ is = c.in-Some.ensures.0 in
-    let short : length x.inputs ≤ 4 = omega (arith, ap length ei, c.in-Some.ensures.1) in
-    let en : c.len-n.result ≡ length P = c.len-n.ensures ∙ (s.pictures.ok.0 ∙ sym (length-map (vec_items s.pictures) drawn)) in
-    let none : any_absent c.len-n.result is ≡ false = sym c.if-any-missing.ensures in
-    let grown = c.in-Ok.ensures in
-    let few : length P < 1024 = omega (arith, c.if-n-ge1024.false, en) in
-    let fed : All (On P) x.inputs = subst (All (On P)) (sym ei) (on_all cap (content s) c.args.op c.len-n.result is en c.in-Some.ensures.1 none) in
-    let l = ap length grown.2 ∙ length_push rs n in
-    All-weaker (On P) (Within rs') (λ y o. (o.0, omega (arith, o.1, l, c.requires.working.ready.counted))) x.inputs fed
 
 pub settle-requires : goal.settle-requires
 settle-requires g c =
     let s = c.args.self.now in
-    let P = pictures_on s in
-    let E = entries_on s in
-    let cap = g.K.Keeper.limit in
+    let P = vec_items s.pictures in
+    let n : ℕ = vec_len s.pictures in
     let rs = g.K.Keeper.reps s.keeper in
     let rs' = g.K.Keeper.reps c.grow.new.self in
-    let N = vec_items s.notes in
-    let m = held (g.I.Index.leads s.index) in
-    let J = vec_items s.journal in
-    let is = c.args.inputs.now in
-    let n : ℕ = c.in-Ok.number in
-    let p : Held = record { op = c.args.op; inputs = c.in-Some.row } in
-    let x : Picture = drawn p in
-    let ei : x.inputs ≡ is = c.in-Some.ensures.0 in
-    let short : length x.inputs ≤ 4 = omega (arith, ap length ei, c.in-Some.ensures.1) in
-    let en : c.len-n.result ≡ length P = c.len-n.ensures ∙ (s.pictures.ok.0 ∙ sym (length-map (vec_items s.pictures) drawn)) in
-    let none : any_absent c.len-n.result is ≡ false = sym c.if-any-missing.ensures in
-    let grown = c.in-Ok.ensures in
-    let few : length P < 1024 = omega (arith, c.if-n-ge1024.false, en) in
-    let fed : All (On P) x.inputs = subst (All (On P)) (sym ei) (on_all cap (content s) c.args.op c.len-n.result is en c.in-Some.ensures.1 none) in
-    let note : Note = record { row = c.roots-signature.result; waits = true } in
-    let own_row : cells_of note.row ≡ map (rep rs') x.inputs = c.roots-signature.ensures.answer in
-    let pushed : vec_items c.push-reserved.new.self ≡ vec_items s.pictures ++ p ∷ [] = c.push-reserved.ensures.items in
-    let noted : vec_items c.push-reserved-in-Ok.new.self ≡ N ++ note ∷ [] = c.push-reserved-in-Ok.ensures.items in
-    let ep : sheet (vec_items c.push-reserved.new.self) ≡ P ++ x ∷ [] = ap sheet pushed ∙ map-append drawn (vec_items s.pictures) (p ∷ []) in
-    let eq : sheet c.as-slice.result.now ≡ P ++ x ∷ [] = ap sheet c.as-slice.ensures.value ∙ ep in
-    let w = grown_working rs rs' P x N note m J n c.requires.working (g.met.K.Keeper.settled s.keeper) few grown.1 grown.2 fed short own_row refl in
-    let e = c.as-mut-slice.ensures.value ∙ noted in
+    let p : Picture = record { op = c.args.op; inputs = c.in-Some.row } in
+    let grown : rs' ≡ rs ++ c.in-Ok.number ∷ [] = c.in-Ok.ensures.2 in
+    let none : any_absent n c.args.inputs.now ≡ false = ap (λ (k : ℕ). any_absent k c.args.inputs.now) (sym c.len-n.ensures) ∙ (sym c.any-missing.ensures ∙ c.if-any-missing.false) in
+    let len : n ≡ length P = s.pictures.ok.0 in
+    let on : All (Upto (length P)) c.args.inputs.now = subst (λ (k : ℕ). All (Upto k) c.args.inputs.now) len (all_present n c.args.inputs.now none) in
+    let fed : Fed (length P) p = subst (All (Upto (length P))) (sym c.in-Some.ensures.0) on in
+    let pushed : vec_items c.push-reserved.new.self ≡ P ++ p ∷ [] = c.push-reserved.ensures.items in
+    let few : length P < 1024 = omega (arith, len) in
     record {
-      working = subst (λ (ts : List ℕ). Working ts (sheet c.as-slice.result.now) c.as-mut-slice.result.now m J) (sym c.roots-signature.ensures.same)
-          (subst₂ (λ (Q : List Picture) (X : List Note). Working rs' Q X m J) (sym eq) (sym e) w);
+      ready = grown_ready rs rs' P _ p c.in-Ok.number c.requires.ready few grown (c.as-slice.ensures.value ∙ pushed) fed;
+      sized = omega arith;
+      inward = grown_inward n _ _ (omega arith) c.requires.inward;
+      booked = grown_booked rs rs' c.in-Ok.number _ grown c.requires.booked;
       room = s.journal_room;
     }
+
+pub lowest-lowest-requires : goal.lowest-lowest-requires
+lowest-lowest-requires g c =
+    let grown = c.in-Ok.ensures in
+    let l = ap length grown.2 ∙ length_push (g.K.Keeper.reps c.args.self.now.keeper) c.in-Ok.number in
+    (omega (arith, grown.1), omega (arith, grown.1, l, c.settle.ensures.progress.counted))
 
 pub returns-in-Ok : goal.returns-in-Ok
 returns-in-Ok g c =
     let s = c.args.self.now in
-    let P = pictures_on s in
-    let E = entries_on s in
-    let cap = g.K.Keeper.limit in
+    let P = vec_items s.pictures in
+    let n : ℕ = vec_len s.pictures in
     let rs = g.K.Keeper.reps s.keeper in
     let rs' = g.K.Keeper.reps c.grow.new.self in
-    let N = vec_items s.notes in
-    let m = held (g.I.Index.leads s.index) in
-    let J = vec_items s.journal in
-    let is = c.args.inputs.now in
-    let n : ℕ = c.in-Ok.number in
-    let p : Held = record { op = c.args.op; inputs = c.in-Some.row } in
-    let x : Picture = drawn p in
-    let ei : x.inputs ≡ is = c.in-Some.ensures.0 in
-    let short : length x.inputs ≤ 4 = omega (arith, ap length ei, c.in-Some.ensures.1) in
-    let en : c.len-n.result ≡ length P = c.len-n.ensures ∙ (s.pictures.ok.0 ∙ sym (length-map (vec_items s.pictures) drawn)) in
-    let none : any_absent c.len-n.result is ≡ false = sym c.if-any-missing.ensures in
-    let grown = c.in-Ok.ensures in
-    let few : length P < 1024 = omega (arith, c.if-n-ge1024.false, en) in
-    let fed : All (On P) x.inputs = subst (All (On P)) (sym ei) (on_all cap (content s) c.args.op c.len-n.result is en c.in-Some.ensures.1 none) in
-    let note : Note = record { row = c.roots-signature.result; waits = true } in
-    let own_row : cells_of note.row ≡ map (rep rs') x.inputs = c.roots-signature.ensures.answer in
-    let pushed : vec_items c.push-reserved.new.self ≡ vec_items s.pictures ++ p ∷ [] = c.push-reserved.ensures.items in
-    let noted : vec_items c.push-reserved-in-Ok.new.self ≡ N ++ note ∷ [] = c.push-reserved-in-Ok.ensures.items in
-    let ep : sheet (vec_items c.push-reserved.new.self) ≡ P ++ x ∷ [] = ap sheet pushed ∙ map-append drawn (vec_items s.pictures) (p ∷ []) in
-    let eq : sheet c.as-slice.result.now ≡ P ++ x ∷ [] = ap sheet c.as-slice.ensures.value ∙ ep in
     let rs'' = g.K.Keeper.reps c.settle.new.k in
-    let m'' = held (g.I.Index.leads c.settle.new.index) in
-    let J'' = vec_items c.settle.new.journal in
-    let N'' = c.settle.new.notes in
-    let w'' : Working rs'' (P ++ x ∷ []) N'' m'' J'' = subst (λ (Q : List Picture). Working rs'' Q N'' m'' J'') eq c.settle.ensures.working in
-    let idle : Idle (P ++ x ∷ []) N'' = subst (λ (Q : List Picture). Idle Q N'') eq c.settle.ensures.idle in
-    let grows : Grows (P ++ x ∷ []) Any J J'' = subst (λ (Q : List Picture). Grows Q Any J J'') eq c.settle.ensures.grows in
-    let room : length P < cap = omega (arith, grown.0, c.requires.room, c.requires.working.ready.counted) in
-    let w = added_rests cap rs rs' rs'' P x E N N'' note m m'' J J'' n c.requires (g.met.K.Keeper.settled s.keeper) few grown.1 grown.2 fed short own_row refl room w'' idle grows in
-    let v = c.push-reserved-in-Ok.new.self in
-    let X'' : List Note = take v.len (N'' ++ drop (length N'') v.items) in
-    let back : X'' ≡ N'' = lent N'' v.items v.len (c.settle.auto.notes ∙ c.as-mut-slice.ensures.len) in
-    let on : On (P ++ x ∷ []) n = (omega (arith, grown.1), omega (arith, grown.1, c.requires.working.ready.counted, length_push P x)) in
-    let low : Lowest (P ++ x ∷ []) E n c.lowest-lowest.result = lowest_told rs'' (P ++ x ∷ []) E n c.lowest-lowest.result w''.ready w.closes on c.lowest-lowest.ensures.answer in
-    let same-x : x ≡ record { operation = c.args.op; inputs = is } = ap (λ (ys : List ℕ). record { operation = c.args.op; inputs = ys }) ei in
+    let p : Picture = record { op = c.args.op; inputs = c.in-Some.row } in
+    let grown = c.in-Ok.ensures in
+    let none : any_absent n c.args.inputs.now ≡ false = ap (λ (k : ℕ). any_absent k c.args.inputs.now) (sym c.len-n.ensures) ∙ (sym c.any-missing.ensures ∙ c.if-any-missing.false) in
+    let len : n ≡ length P = s.pictures.ok.0 in
+    let on : All (Upto (length P)) c.args.inputs.now = subst (λ (k : ℕ). All (Upto k) c.args.inputs.now) len (all_present n c.args.inputs.now none) in
+    let fed : Fed (length P) p = subst (All (Upto (length P))) (sym c.in-Some.ensures.0) on in
+    let pushed : vec_items c.push-reserved.new.self ≡ P ++ p ∷ [] = c.push-reserved.ensures.items in
+    let few : length P < 1024 = omega (arith, len) in
+    let ready = grown_ready rs rs' P (vec_items c.push-reserved.new.self) p c.in-Ok.number c.requires.ready few grown.2 pushed fed in
+    let prog = c.settle.ensures.progress in
+    let same = c.lowest-lowest.ensures.same in
+    let other : n ≢ g.K.Keeper.limit = λ e. grown.0 (c.requires.ready.counted ∙ (sym len ∙ e)) in
+    let full : n < g.K.Keeper.limit = omega (arith, c.requires.room) in
     record {
-      whole = rests_same cap rs'' (g.K.Keeper.reps c.lowest-lowest.new.k) (sheet (vec_items c.push-reserved.new.self)) E X'' m'' J'' c.lowest-lowest.ensures.same
-          (subst₂ (λ (Q : List Picture) (X : List Note). Rests cap rs'' Q E X m'' J'') (sym ep) (sym back) w);
-      answer = add_added cap (content s) c.args.op c.len-n.result is en c.in-Some.ensures.1 none few room n c.lowest-lowest.result (omega (arith, grown.1, c.requires.working.ready.counted))
-          (subst (λ (y : Picture). Lowest (P ++ y ∷ []) E n c.lowest-lowest.result) same-x low);
-      after = ap (λ (Q : List Picture). record { locked = false; pictures = Q; entries = E }) (ep ∙ ap (λ (y : Picture). P ++ y ∷ []) same-x);
+      whole = record {
+        ready = subst (λ (xs : List ℕ). Ready xs (vec_items c.push-reserved.new.self)) (sym same) (progress_ready _ rs' rs'' _ _ prog ready);
+        room = omega (arith, full, c.push-reserved.ensures.len);
+        inward = subst (λ (k : ℕ). Inward k (held (g.I.Index.leads c.settle.new.index))) c.as-slice.ensures.len c.settle.ensures.inward;
+        booked = subst (λ (xs : List ℕ). Booked xs (vec_len c.settle.new.journal)) (sym same) (progress_booked rs' rs'' _ _ prog (grown_booked rs rs' c.in-Ok.number _ grown.2 c.requires.booked));
+        placed = placed_more n _ (vec_items s.entries) (omega arith) c.requires.placed;
+      };
+      refused = sym (add_passes g.K.Keeper.limit n c.args.inputs.now c.in-Some.ensures.1 none (omega (arith, len)) full);
+      pictures = (p, pushed, refl, c.in-Some.ensures.0);
+      entries = refl;
+      answer = (grown.1 ∙ ap (λ (k : ℕ). k + 1) (c.requires.ready.counted ∙ sym len), subst (λ (xs : List ℕ). Lowest xs c.in-Ok.number c.lowest-lowest.result) (sym same) c.lowest-lowest.ensures.answer);
     }

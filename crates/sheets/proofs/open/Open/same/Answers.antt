@@ -1,213 +1,76 @@
-use Rattle.std.proofs.Common.{◌≡◌, ℕ, suc, ◌+◌, ◌-◌, ◌<◌, ◌≤◌, true, false, List, [], ◌∷◌, ◌++◌, length, get_or, take, drop, Some, Err, vec_items, All, sym, refl, ap, ◌∙◌, subst, subst₂, inl, inr, add-one, arith}
-use Rattle.std.proofs.lemmas.List.Elements.{All-push}
-use Rattle.std.proofs.lemmas.List.{length-map, length-append, map-append}
-use Rattle.std.proofs.lemmas.Result.{err_from_is_err_and}
-use Rattle.theory.specs.Sheet.{Picture, Entry, On, Breaks, First}
-use Rattle.theory.specs.Sheet.{same as same-entry}
-use Rattle.theory.specs.Reasons.{Fits}
-use Rattle.theory.specs.Calls.{Content, Answer, joined, refused, contradiction, Differs}
-use Rattle.keepers.specs.Meaning.{rep}
+use Rattle.std.proofs.Common.{◌≡◌, ℕ, ◌+◌, ◌-◌, ◌<◌, ◌≤◌, List, length, get_or, vec_items, vec_len, All, sym, refl, ap, ◌∙◌, subst, ap₂, arith}
+use Rattle.std.proofs.lemmas.List.Elements.{All-push, All-get_or}
+use Rattle.keepers.specs.Meaning.{Upto, class_count}
 use Rattle.indexes.specs.Meaning.{held}
-use Rattle.closure.specs.declared.picture.Picture.{Picture as Held}
-use Rattle.closure.specs.declared.picture.Note.{Note}
-use Rattle.closure.specs.declared.journal.Join.{Join}
-use Rattle.closure.specs.declared.journal.Cause.TheVariants.{Entry as By-entry}
-use Rattle.closure.specs.Drawn.{drawn, sheet, reasons, reason_of}
-use Rattle.closure.specs.Working.{Fresh, Grows, Any}
-use Rattle.closure.specs.Waiting.{Working, Idle}
-use Rattle.closure.proofs.Replays.{derived_fresh}
-use Rattle.reasons.specs.Table.{Written, Explained}
-use Rattle.sheets.specs.declared.answer.Joined.{Joined}
-use Rattle.sheets.specs.declared.entry.Entry.{Entry as Told}
+use Rattle.closure.specs.Working.{Ready, Booked, Inward}
+use Rattle.closure.proofs.Counts.{progress_ready, progress_booked}
+use Rattle.sheets.specs.declared.entry.Entry.{Entry}
 use Rattle.sheets.specs.declared.entry.Entry.TheVariants.{Same}
-use Rattle.sheets.specs.Content.{pictures_on, entries_on, content, entry_of, taken}
-use Rattle.sheets.specs.Breaking.{Inside, Unbroken, FirstBroken, broken, left_of, right_of}
-use Rattle.sheets.specs.Whole.{Rests}
-use Rattle.sheets.proofs.Deciding.{none_breaks, first_breaks, differs_at, impossible, possible, inside, passed, passed_on, broken_one, placed_ends}
-use Rattle.sheets.proofs.Telling.{number_new, same_proper, same_derived, same_closes, same_rests, same_taken, same_begins, rests_again, rests_same}
-use Rattle.sheets.proofs.Stopping.{stopped_whole, shown, lent}
+use Rattle.sheets.specs.Checks.{entry_check, Passed}
+use Rattle.sheets.specs.Entries.{Placed}
 use Rattle.sheets.proofs.open.Open.same.Goals as goal
 
-pub returns-in-err-entry : goal.returns-in-err-entry
-returns-in-err-entry g c =
+pub tie-requires : goal.tie-requires
+tie-requires g c =
     let s = c.args.self.now in
-    let en : c.len-n.result ≡ length (pictures_on s) = c.len-n.ensures ∙ (s.pictures.ok.0 ∙ sym (length-map (vec_items s.pictures) drawn)) in
-    let et : c.len-taken.result ≡ length (entries_on s) = c.len-taken.ensures ∙ (s.entries.ok.0 ∙ sym (length-map (vec_items s.entries) entry_of)) in
-    let p = err_from_is_err_and c.from-residual.result c.from-residual.ensures.1 in
-    let says : Joined → Answer = λ j. joined j.entry j.joins in
-    let h = stopped_whole says g.K.Keeper.limit (content s) (same-entry c.args.a c.args.b) c.args.table.now c.len-n.result c.len-taken.result c.args.a c.args.b en et
-    (λ o. o) (λ oa ob. (oa, ob)) c.from-residual.result c.in-err-entry.field-0.0 (p.1 ∙ ap Err p.2) c.in-err-entry.ensures in
-    record { whole = c.requires; answer = h.0; after = h.1; table = h.2 }
-
-pub first-broken-requires : goal.first-broken-requires
-first-broken-requires g c =
-    let s = c.args.self.now in
-    let n = c.tie.ensures.working.ready.counted in
-    let l = ap length c.as-slice.ensures.value in
-    let l' = length-map c.as-slice.result.now drawn in
-    let l'' = length-map (vec_items s.pictures) drawn in
-    subst (All (Inside (length (g.K.Keeper.reps c.tie.new.k)))) (sym c.as-slice-2.ensures.value)
-    (inside (length (g.K.Keeper.reps c.tie.new.k)) (pictures_on s) (vec_items s.entries) (omega (arith, n, l, l', l'')) c.requires.placed)
-
-pub overflow-sub-result : goal.overflow-sub-result
-overflow-sub-result g c =
-    let s = c.args.self.now in
-    let grows = c.tie.ensures.grows in
-    let l = ap length grows.is ∙ length-append (vec_items s.journal) grows.more in
-    omega (arith, l, c.len-joined.ensures, c.len.ensures, s.journal.ok.0, c.tie.new.journal.ok.0)
+    let len = c.as-slice.ensures.len in
+    let passed = subst (λ (k : ℕ). Passed (length c.args.table.now) k c.len-taken.result c.args.a c.args.b) c.len-n.ensures c.in-ok-entry.ensures.2 in
+    record {
+      ready = subst (Ready (g.K.Keeper.reps s.keeper)) (sym c.as-slice.ensures.value) c.requires.ready;
+      on = ((passed.left_on.0, omega (arith, passed.left_on.1, len)), (passed.right_on.0, omega (arith, passed.right_on.1, len)));
+      sized = omega arith;
+      inward = subst (λ (k : ℕ). Inward k (held (g.I.Index.leads s.index))) (sym len) c.requires.inward;
+      booked = c.requires.booked;
+      room = s.journal_room;
+    }
 
 pub withdraw-steps-requires : goal.withdraw-steps-requires
 withdraw-steps-requires g c =
     let s = c.args.self.now in
-    let P = pictures_on s in
-    let E = entries_on s in
-    let a = c.args.a in
-    let b = c.args.b in
-    let k = c.in-ok-entry.entry in
-    let cap = g.K.Keeper.limit in
-    let rs = g.K.Keeper.reps s.keeper in
-    let m = held (g.I.Index.leads s.index) in
-    let N = vec_items s.notes in
-    let J = vec_items s.journal in
-    let rs' = g.K.Keeper.reps c.tie.new.k in
-    let m' = held (g.I.Index.leads c.tie.new.index) in
-    let N' = c.tie.new.notes in
-    let J' = vec_items c.tie.new.journal in
-    let E' : List Entry = E ++ same-entry a b ∷ [] in
-    let j : Join = record { left = a; right = b; cause = By-entry k } in
-    let en : c.len-n.result ≡ length P = c.len-n.ensures ∙ (s.pictures.ok.0 ∙ sym (length-map (vec_items s.pictures) drawn)) in
-    let et : c.len-taken.result ≡ length E = c.len-taken.ensures ∙ (s.entries.ok.0 ∙ sym (length-map (vec_items s.entries) entry_of)) in
-    let pass = c.in-ok-entry.ensures in
-    let on = passed_on cap (content s) (same-entry a b) (length c.args.table.now) c.len-n.result c.len-taken.result a b en et (λ o. o) (λ oa ob. (oa, ob)) pass.1 in
-    let ek : k ≡ length E + 1 = pass.0 ∙ ap (λ (n : ℕ). n + 1) et in
-    let slice = c.as-slice.ensures.value in
-    let w' : Working rs' P N' m' J' = subst (λ (ps : List Held). Working rs' (sheet ps) N' m' J') slice c.tie.ensures.working in
-    let idle : Idle P N' = subst (λ (ps : List Held). Idle (sheet ps) N') slice c.tie.ensures.idle in
-    let grows : Grows P (λ F. Fits P F (reasons J) (reason_of j)) J J' = subst (λ (ps : List Held). Grows (sheet ps) (λ F. Fits (sheet ps) F (reasons J) (reason_of j)) J J') slice c.tie.ensures.grows in
-    let fits : Fits P E' (reasons J) (reason_of j) = number_new E k a b ek in
-    let meet : rep rs' a ≡ rep rs' b = c.tie.ensures.joined in
-    let X' : List Note = take s.notes.len (N' ++ drop (length N') s.notes.items) in
-    let back : X' ≡ N' = lent N' s.notes.items s.notes.len (c.tie.auto.notes ∙ c.as-mut-slice.ensures.len) in
+    let n : ℕ = vec_len s.pictures in
+    let same = c.first-broken.ensures.same in
+    let prog = c.tie.ensures.progress in
+    let e : Entry = c.index-broken.result.now in
+    let found : c.in-Some.i < length (vec_items s.entries) = omega (arith, c.in-Some.ensures.answer.0, ap length c.as-slice-2.ensures.value) in
+    let placed : Placed n e = subst (Placed n) (sym c.index-broken.ensures) (All-get_or (Placed n) (vec_items s.entries) c.in-Some.i e found c.requires.placed) in
     record {
-      working = subst (λ (ts : List ℕ). Working ts P X' m' J') (sym c.first-broken.ensures.same) (subst (λ (X : List Note). Working rs' P X m' J') (sym back) w');
-      fresh = derived_fresh P E' J' (same_derived cap rs rs' P E N N' m m' J J' j a b c.requires on.0 on.1 fits w' idle grows meet);
-      limit = c.requires.room;
-      cells = pass.1.enough;
+      whole = record {
+        ready = subst (λ (rs : List ℕ). Ready rs (vec_items s.pictures)) (sym same) (progress_ready _ _ _ _ _ prog c.requires.ready);
+        room = c.requires.room;
+        inward = subst (λ (k : ℕ). Inward k (held (g.I.Index.leads c.tie.new.index))) c.as-slice.ensures.len c.tie.ensures.inward;
+        booked = subst (λ (rs : List ℕ). Booked rs (vec_len c.tie.new.journal)) (sym same) (progress_booked _ _ _ _ prog c.requires.booked);
+        placed = c.requires.placed;
+      };
+      on = (subst (Upto n) (sym c.left.ensures) placed.0, subst (Upto n) (sym c.right.ensures) placed.1);
+      cells = c.in-ok-entry.ensures.2.enough;
     }
 
 pub returns-in-None : goal.returns-in-None
 returns-in-None g c =
     let s = c.args.self.now in
-    let P = pictures_on s in
-    let E = entries_on s in
-    let a = c.args.a in
-    let b = c.args.b in
-    let k = c.in-ok-entry.entry in
-    let cap = g.K.Keeper.limit in
-    let rs = g.K.Keeper.reps s.keeper in
-    let m = held (g.I.Index.leads s.index) in
-    let N = vec_items s.notes in
-    let J = vec_items s.journal in
-    let rs' = g.K.Keeper.reps c.tie.new.k in
-    let m' = held (g.I.Index.leads c.tie.new.index) in
-    let N' = c.tie.new.notes in
-    let J' = vec_items c.tie.new.journal in
-    let E' : List Entry = E ++ same-entry a b ∷ [] in
-    let j : Join = record { left = a; right = b; cause = By-entry k } in
-    let en : c.len-n.result ≡ length P = c.len-n.ensures ∙ (s.pictures.ok.0 ∙ sym (length-map (vec_items s.pictures) drawn)) in
-    let et : c.len-taken.result ≡ length E = c.len-taken.ensures ∙ (s.entries.ok.0 ∙ sym (length-map (vec_items s.entries) entry_of)) in
+    let a : ℕ = c.args.a in
+    let b : ℕ = c.args.b in
+    let n : ℕ = vec_len s.pictures in
+    let t : ℕ = vec_len s.entries in
+    let cells : ℕ = length c.args.table.now in
+    let same = c.first-broken.ensures.same in
+    let prog = c.tie.ensures.progress in
     let pass = c.in-ok-entry.ensures in
-    let on = passed_on cap (content s) (same-entry a b) (length c.args.table.now) c.len-n.result c.len-taken.result a b en et (λ o. o) (λ oa ob. (oa, ob)) pass.1 in
-    let ek : k ≡ length E + 1 = pass.0 ∙ ap (λ (n : ℕ). n + 1) et in
-    let slice = c.as-slice.ensures.value in
-    let w' : Working rs' P N' m' J' = subst (λ (ps : List Held). Working rs' (sheet ps) N' m' J') slice c.tie.ensures.working in
-    let idle : Idle P N' = subst (λ (ps : List Held). Idle (sheet ps) N') slice c.tie.ensures.idle in
-    let grows : Grows P (λ F. Fits P F (reasons J) (reason_of j)) J J' = subst (λ (ps : List Held). Grows (sheet ps) (λ F. Fits (sheet ps) F (reasons J) (reason_of j)) J J') slice c.tie.ensures.grows in
-    let fits : Fits P E' (reasons J) (reason_of j) = number_new E k a b ek in
-    let meet : rep rs' a ≡ rep rs' b = c.tie.ensures.joined in
-    let closes = same_closes cap rs rs' P E N N' m m' J J' j a b c.requires on.0 on.1 fits w' idle grows meet in
-    let es = vec_items s.entries in
-    let ub : Unbroken rs' es (length es) = subst (λ (fs : List Told). Unbroken rs' fs (length fs)) c.as-slice-2.ensures.value c.in-None.ensures.answer in
-    let unbroken = All-push (λ e. ¬ Breaks P E' e) E (same-entry a b) (none_breaks rs' P E' closes es ub) (λ q. q) in
-    let w = same_rests cap rs rs' P E N N' m m' J J' j a b c.requires on.0 on.1 fits w' idle grows meet unbroken in
-    let X' : List Note = take s.notes.len (N' ++ drop (length N') s.notes.items) in
-    let back : X' ≡ N' = lent N' s.notes.items s.notes.len (c.tie.auto.notes ∙ c.as-mut-slice.ensures.len) in
-    let pushed = ap taken c.push-reserved.ensures.items ∙ map-append entry_of es (Same a b ∷ []) in
-    let proper = same_proper cap rs rs' P E N N' m m' J J' j a b c.requires on.0 on.1 fits w' idle grows meet in
+    let passed : Passed cells n t a b = subst (λ (k : ℕ). Passed cells k t a b) c.len-n.ensures (subst (λ (k : ℕ). Passed cells c.len-n.result k a b) c.len-taken.ensures pass.2) in
     record {
-      whole = rests_same cap rs' (g.K.Keeper.reps c.first-broken.new.k) P (taken (vec_items c.push-reserved.new.self)) X' m' J' c.first-broken.ensures.same
-          (subst (λ (F : List Entry). Rests cap rs' P F X' m' J') (sym pushed) (subst (λ (X : List Note). Rests cap rs' P E' X m' J') (sym back) w));
-      answer = passed cap (content s) (same-entry a b) (length c.args.table.now) c.len-n.result c.len-taken.result a b en et (λ o. o) (λ oa ob. (oa, ob)) (joined k (c.len.result - c.len-joined.result)) pass.1
-          (inr (
-            possible (content s) (same-entry a b) proper unbroken,
-            same_taken cap rs rs' P E N N' m m' J J' j a b c.requires on.0 on.1 fits w' idle grows meet k (c.len.result - c.len-joined.result) ek
-                (omega (arith, c.len-joined.ensures, c.len.ensures, s.journal.ok.0, c.tie.new.journal.ok.0)),
-          ));
-      after = ap (λ (F : List Entry). record { locked = false; pictures = P; entries = F }) pushed;
+      whole = record {
+        ready = subst (λ (rs : List ℕ). Ready rs (vec_items s.pictures)) (sym same) (progress_ready _ _ _ _ _ prog c.requires.ready);
+        room = c.requires.room;
+        inward = subst (λ (k : ℕ). Inward k (held (g.I.Index.leads c.tie.new.index))) c.as-slice.ensures.len c.tie.ensures.inward;
+        booked = subst (λ (rs : List ℕ). Booked rs (vec_len c.tie.new.journal)) (sym same) (progress_booked _ _ _ _ prog c.requires.booked);
+        placed = subst (All (Placed n)) (sym c.push-reserved.ensures.items) (All-push (Placed n) (vec_items s.entries) (Same a b) c.requires.placed (passed.left_on, passed.right_on));
+      };
+      told = (
+        ap₂ (λ (k j : ℕ). entry_check cells k j a b) (sym c.len-n.ensures) (sym c.len-taken.ensures) ∙ pass.0,
+        pass.1 ∙ ap (λ (k : ℕ). k + 1) (c.len-taken.ensures ∙ s.entries.ok.0),
+        c.push-reserved.ensures.items,
+      );
+      pictures = refl;
+      joins = omega (arith, ap class_count same, prog.balance, prog.longer, c.len.ensures, c.len-joined.ensures);
       table = refl;
-    }
-
-pub returns-in-Some : goal.returns-in-Some
-returns-in-Some g c =
-    let s = c.args.self.now in
-    let P = pictures_on s in
-    let E = entries_on s in
-    let a = c.args.a in
-    let b = c.args.b in
-    let k = c.in-ok-entry.entry in
-    let cap = g.K.Keeper.limit in
-    let rs = g.K.Keeper.reps s.keeper in
-    let m = held (g.I.Index.leads s.index) in
-    let N = vec_items s.notes in
-    let J = vec_items s.journal in
-    let rs' = g.K.Keeper.reps c.tie.new.k in
-    let m' = held (g.I.Index.leads c.tie.new.index) in
-    let N' = c.tie.new.notes in
-    let J' = vec_items c.tie.new.journal in
-    let E' : List Entry = E ++ same-entry a b ∷ [] in
-    let j : Join = record { left = a; right = b; cause = By-entry k } in
-    let en : c.len-n.result ≡ length P = c.len-n.ensures ∙ (s.pictures.ok.0 ∙ sym (length-map (vec_items s.pictures) drawn)) in
-    let et : c.len-taken.result ≡ length E = c.len-taken.ensures ∙ (s.entries.ok.0 ∙ sym (length-map (vec_items s.entries) entry_of)) in
-    let pass = c.in-ok-entry.ensures in
-    let on = passed_on cap (content s) (same-entry a b) (length c.args.table.now) c.len-n.result c.len-taken.result a b en et (λ o. o) (λ oa ob. (oa, ob)) pass.1 in
-    let ek : k ≡ length E + 1 = pass.0 ∙ ap (λ (n : ℕ). n + 1) et in
-    let slice = c.as-slice.ensures.value in
-    let w' : Working rs' P N' m' J' = subst (λ (ps : List Held). Working rs' (sheet ps) N' m' J') slice c.tie.ensures.working in
-    let idle : Idle P N' = subst (λ (ps : List Held). Idle (sheet ps) N') slice c.tie.ensures.idle in
-    let grows : Grows P (λ F. Fits P F (reasons J) (reason_of j)) J J' = subst (λ (ps : List Held). Grows (sheet ps) (λ F. Fits (sheet ps) F (reasons J) (reason_of j)) J J') slice c.tie.ensures.grows in
-    let fits : Fits P E' (reasons J) (reason_of j) = number_new E k a b ek in
-    let meet : rep rs' a ≡ rep rs' b = c.tie.ensures.joined in
-    let closes = same_closes cap rs rs' P E N N' m m' J J' j a b c.requires on.0 on.1 fits w' idle grows meet in
-    let es = vec_items s.entries in
-    let i = c.in-Some.i in
-    let e : Told = c.index-broken.result.now in
-    let found : FirstBroken rs' es (Some i) = subst (λ (fs : List Told). FirstBroken rs' fs (Some i)) c.as-slice-2.ensures.value c.in-Some.ensures.answer in
-    let ends = placed_ends P es i e found.0 c.requires.placed in
-    let l = left_of (get_or es i e) in
-    let r = right_of (get_or es i e) in
-    let el : c.left.result ≡ l = c.left.ensures ∙ ap left_of c.index-broken.ensures in
-    let er : c.right.result ≡ r = c.right.ensures ∙ ap right_of c.index-broken.ensures in
-    let one = broken_one rs' (get_or es i e) (found.1 e) in
-    let t = c.args.table.now in
-    let t' = c.withdraw-steps.new.table in
-    let n = c.withdraw-steps.result in
-    let o = c.withdraw-steps.new.self in
-    let rs'' = g.K.Keeper.reps o.keeper in
-    let m'' = held (g.I.Index.leads o.index) in
-    let N'' = vec_items o.notes in
-    let J'' = vec_items o.journal in
-    let ex : Explained P (reasons J') l r n t t' = subst₂ (λ (x y : ℕ). Explained P (reasons J') x y n t t') el er c.withdraw-steps.ensures.explained in
-    let written = ex E' (same_derived cap rs rs' P E N N' m m' J J' j a b c.requires on.0 on.1 fits w' idle grows meet, w'.books.tracks.told l r ends.0 ends.1 one) in
-    let bad : First (Breaks P E') (i + 1) E' = subst (λ (x : ℕ). First (Breaks P E') x E') (sym (add-one i)) (first_breaks rs' P E' closes es (same-entry a b ∷ []) i e found.0 c.requires.placed (found.1 e) found.2) in
-    let which : Differs (i + 1) E' l r = subst (λ (x : ℕ). Differs x E' l r) (sym (add-one i)) (differs_at rs' es (same-entry a b ∷ []) i e found.0 (found.1 e)) in
-    let begins : take c.len-joined.result J' ≡ J = same_begins cap rs rs' P E N N' m m' J J' j a b c.requires on.0 on.1 fits w' idle grows meet c.len-joined.result (c.len-joined.ensures ∙ s.journal.ok.0) in
-    let w = rests_again cap rs rs'' P E N N'' m m'' J J'' c.requires c.withdraw-steps.ensures.working c.withdraw-steps.ensures.idle
-    (subst (λ (K : List Join). Grows P Any K J'') begins c.withdraw-steps.ensures.grows) in
-    let same-content : content o ≡ content s = c.withdraw-steps.ensures.content in
-    record {
-      whole = subst₂ (λ (Q : List Picture) (F : List Entry). Rests cap rs'' Q F N'' m'' J'') (sym (ap (λ (x : Content). x.pictures) same-content)) (sym (ap (λ (x : Content). x.entries) same-content)) w;
-      answer = passed cap (content s) (same-entry a b) (length t) c.len-n.result c.len-taken.result a b en et (λ o. o) (λ oa ob. (oa, ob)) (refused (contradiction (i + 1) n)) pass.1
-          (inl (impossible (content s) (same-entry a b) (i + 1) (same_proper cap rs rs' P E N N' m m' J J' j a b c.requires on.0 on.1 fits w' idle grows meet) bad, (i + 1, n, l, r, bad, which, shown P E' l r n t t' written, refl)));
-      after = same-content;
-      table = (l, r, which, written);
     }

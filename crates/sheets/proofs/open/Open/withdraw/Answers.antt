@@ -1,50 +1,21 @@
-use Rattle.std.proofs.Common.{◌≡◌, ℕ, ◌≤◌, List, length, take, vec_items, All, sym, refl, ap, ◌∙◌, subst, subst₂, arith}
-use Rattle.std.proofs.lemmas.List.{length-map}
-use Rattle.keepers.specs.Meaning.{rep}
+use Rattle.std.proofs.Common.{◌≡◌, ℕ, ◌≤◌, List, length, take, vec_items, vec_len, sym, refl, ap, ◌∙◌, subst, arith, length-take}
 use Rattle.indexes.specs.Meaning.{held}
-use Rattle.closure.specs.declared.picture.Picture.{Picture as Held}
-use Rattle.closure.specs.declared.picture.Note.{Note}
-use Rattle.closure.specs.declared.journal.Join.{Join}
-use Rattle.closure.specs.Drawn.{drawn, sheet, reasons}
-use Rattle.closure.specs.Working.{Ready, Fresh, Placed, Grows, Any}
-use Rattle.closure.specs.Waiting.{Working, Idle}
-use Rattle.closure.proofs.Replays.{tracked_placed}
-use Rattle.reasons.specs.Table.{Explained}
-use Rattle.sheets.specs.Content.{pictures_on}
-use Rattle.sheets.proofs.Stopping.{lent}
+use Rattle.closure.specs.declared.picture.Picture.{Picture}
+use Rattle.closure.specs.Working.{Ready, Inward}
 use Rattle.sheets.proofs.open.Open.withdraw.Goals as goal
-
-pub restore-requires : goal.restore-requires
-restore-requires g c =
-    let s = c.args.self.now in
-    let rs = g.K.Keeper.reps s.keeper in
-    let J = vec_items s.journal in
-    let w = c.requires.working in
-    let e : c.as-slice-3.result.now ≡ vec_items s.pictures = c.as-slice-3.ensures.value in
-    let l = length-map (vec_items s.pictures) drawn in
-    record {
-      ready = subst (λ (ps : List Held). Ready rs (sheet ps)) (sym e) w.ready;
-      limit = omega (arith, ap length e, c.requires.limit, l);
-      sized = ap length c.as-mut-slice.ensures.value ∙ (w.going.sized ∙ (l ∙ ap length (sym e)));
-      placed = subst (λ (ps : List Held). All (Placed (sheet ps)) J) (sym e) (tracked_placed (pictures_on s) J (rep rs) w.books.tracks);
-      fresh = subst (λ (ps : List Held). Fresh (sheet ps) J) (sym e) c.requires.fresh;
-      room = s.journal_room;
-    }
 
 pub returns : goal.returns
 returns g c =
     let s = c.args.self.now in
-    let e : c.as-slice-3.result.now ≡ vec_items s.pictures = c.as-slice-3.ensures.value in
-    let rs = g.K.Keeper.reps c.restore.new.k in
-    let m = held (g.I.Index.leads c.restore.new.index) in
-    let J = vec_items c.restore.new.journal in
-    let N = c.restore.new.notes in
-    let back : take s.notes.len _ ≡ N = lent N s.notes.items s.notes.len (c.restore.auto.notes ∙ c.as-mut-slice.ensures.len) in
     record {
-      explained = subst₂ (λ (ps : List Held) (js : List Join). Explained (sheet ps) (reasons js) c.args.a c.args.b c.explain-steps.result c.args.table.now c.explain-steps.new.table)
-          c.as-slice.ensures.value c.as-slice-2.ensures.value c.explain-steps.ensures.explained;
-      working = subst (λ (X : List Note). Working rs (pictures_on s) X m J) (sym back) (subst (λ (ps : List Held). Working rs (sheet ps) N m J) e c.restore.ensures.working);
-      idle = subst (λ (X : List Note). Idle (pictures_on s) X) (sym back) (subst (λ (ps : List Held). Idle (sheet ps) N) e c.restore.ensures.idle);
-      grows = subst (λ (ps : List Held). Grows (sheet ps) Any (take c.args.to (vec_items s.journal)) J) e c.restore.ensures.grows;
-      content = refl;
+      whole = record {
+        ready = subst (Ready (g.K.Keeper.reps c.rebuild.new.k)) c.as-slice-3.ensures.value c.rebuild.ensures.ready;
+        room = c.requires.whole.room;
+        inward = subst (λ (k : ℕ). Inward k (held (g.I.Index.leads c.rebuild.new.index))) c.as-slice-3.ensures.len c.rebuild.ensures.inward;
+        booked = c.rebuild.ensures.booked;
+        placed = c.requires.whole.placed;
+      };
+      pictures = refl;
+      entries = refl;
+      rest = λ k d h. c.write-chain.ensures.rest k d (simp length-take (omega (arith, h)));
     }

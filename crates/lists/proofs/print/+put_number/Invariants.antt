@@ -1,4 +1,0 @@
-use Rattle.lists.proofs.print.+put_number.Given as goal
-
-abbrev pub decreases-put-number : goal.decreases-put-number
-decreases-put-number l = l.n

@@ -1,5 +1,0 @@
-use Rattle.lists.proofs.Records.{one_record}
-use Rattle.lists.proofs.record.a_text_has_one_record.Goals as goal
-
-pub returns : goal.returns
-returns c = one_record

@@ -1,5 +1,0 @@
-mod Marked
-mod Writing
-mod Rows
-mod States
-mod Telling

@@ -1,7 +1,0 @@
--- How far an explainer has followed its journal. Assumes nothing.
-use Rattle.std.specs.Prelude.{ℕ, vec_len}
-use Rattle.reasons.specs.declared.explainer.Explainer.{Explainer}
-
--- the number of joins that the explainer has taken
-abbrev pub followed : {X : Type 0} → Explainer X → ℕ
-followed e = vec_len e.forest.hung

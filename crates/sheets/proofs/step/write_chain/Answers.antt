@@ -1,0 +1,24 @@
+use Rattle.std.proofs.Common.{◌≡◌, ℕ, ◌≤◌, Bool, true, cond, leb, List, map, length, is_ok, IfOk, Ok, Err, Result, sym, ap, ◌∙◌, subst, arith}
+use Rattle.std.specs.List.{range_with_len}
+use Rattle.std.proofs.lemmas.Bool.{le-leb}
+use Rattle.chains.specs.declared.builds.ChainFault.{ChainFault}
+use Rattle.chains.specs.Build.{answered}
+use Rattle.chains.specs.Chain.{Chain}
+use Rattle.chains.specs.Thread.{first_of, Threaded}
+use Rattle.sheets.specs.declared.step.Step.{Step}
+use Rattle.sheets.proofs.Writing.{led, chained}
+use Rattle.sheets.proofs.step.write_chain.Goals as goal
+
+pub returns : goal.returns
+returns c =
+    let js = c.args.joins.now in
+    let m : ℕ = length js in
+    let mid = c.write-steps.new.table in
+    let end = c.thread.new.cells in
+    let is : c.thread.result ≡ Ok (first_of m) =
+    c.thread.ensures.answer ∙ ap (λ (b : Bool). answered b (first_of m)) (le-leb m (length mid) (omega arith)) in
+    let path : Chain (map (λ s. s.next) end) (first_of m) (range_with_len 1 m) =
+    subst (λ (r : Result ℕ ChainFault). IfOk r (λ h. Chain (map (λ s. s.next) end) h (range_with_len 1 m))) is c.thread.ensures.chain in
+    let all : Threaded led m m mid end =
+    subst (λ (r : Result ℕ ChainFault). Threaded led m (cond (is_ok r) m 0) mid end) is c.thread.ensures.records in
+    chained js c.args.table.now mid end (omega arith) (omega arith) (omega arith) c.write-steps.ensures all path
