@@ -1,5 +1,5 @@
 -- A union leaves one class less.
-use Rattle.std.specs.Prelude.{◌≡◌, ℕ, zero, suc, ◌+◌, ◌≤◌, Bool, cond, ◌≢◌, List, map, length, ◌==◌, nat_eq, refl}
+use Rattle.std.specs.Prelude.{◌≡◌, ℕ, zero, suc, ◌+◌, Bool, cond, ◌≢◌, List, map, length, ◌==◌, nat_eq, refl}
 use Rattle.std.proofs.Common.{sym, ◌∙◌, ap, ⊎_elim, add-zero, arith}
 use Rattle.std.proofs.lemmas.List.{length-map}
 use Rattle.std.proofs.lemmas.Bool.{cases_eq, eq-eqb, ne_eqb}

@@ -1,17 +1,17 @@
 -- What becomes of the roots where a link is shortened, a root is linked to another, or a picture is added. Assumes nothing.
 use Rattle.std.specs.Prelude.{◌≡◌, ℕ, zero, suc, ◌+◌, ◌<◌, ◌≤◌, ◌≢◌, List, [], ◌∷◌, ◌++◌, map, length, get_or, slice_index_or, slice_set, refl}
-use Rattle.std.proofs.Common.{sym, ◌∙◌, ap, subst, inl, inr, ⊎_elim, add-one, arith, length-set}
+use Rattle.std.proofs.Common.{sym, ◌∙◌, ap, subst, ⊎_elim, add-one, arith, length-set}
 use Rattle.std.proofs.lemmas.List.{get_or-set_same, get_or-set_other}
 use Rattle.std.proofs.lemmas.List.FromFn.{map-range_with_len_more}
 use Rattle.std.specs.List.{range_with_len}
 use Rattle.std.proofs.lemmas.Bool.{cases_eq}
 use Rattle.keepers.specs.declared.link.Link.{Link}
-use Rattle.keepers.specs.Meaning.{Upto, rep, Within, Settled, moved, class_count}
+use Rattle.keepers.specs.Meaning.{Upto, moved, class_count}
 use Rattle.keepers.specs.Links.{bare, parent, rank, climb, root, roots, Rising, Low, Table}
 use Rattle.keepers.specs.Reps.{moved_hit, moved_miss}
 use Rattle.keepers.specs.Drops.{moved_ends}
 use Rattle.keepers.specs.ClassCounts.{classes_few, classes_push}
-use Rattle.keepers.specs.Roots.{Bounded, Follows, climb_stays, map_upto, root_follows, root_only, root_ends, rep_roots, length-roots, roots_by, roots_same}
+use Rattle.keepers.specs.Roots.{Bounded, climb_stays, map_upto, root_follows, root_only, rep_roots, length-roots, roots_by, roots_same}
 
 pub bounded : (n : ℕ) (ls : List Link) → Low n ls → Bounded n ls
 bounded n ls low x w = let h = low x w in omega arith

@@ -1,5 +1,5 @@
 -- A table of parent links: the link of picture x stands at place x, and a root leads to itself. Assumes nothing.
-use Rattle.std.specs.Prelude.{◌≡◌, ℕ, zero, suc, ◌+◌, ◌<◌, ◌≤◌, ◌≢◌, List, map, length, slice_index_or}
+use Rattle.std.specs.Prelude.{ℕ, zero, suc, ◌+◌, ◌<◌, ◌≤◌, ◌≢◌, List, map, length, slice_index_or}
 use Rattle.std.specs.List.{range_with_len}
 use Rattle.keepers.specs.declared.link.Link.{Link}
 use Rattle.keepers.specs.Meaning.{Upto, class_count}

@@ -1,14 +1,13 @@
 -- The laws of `root`: it is the one function that goes along the links and stays where they end. Assumes nothing.
-use Rattle.std.specs.Prelude.{◌≡◌, ℕ, zero, suc, ◌+◌, ◌<◌, ◌≤◌, ◌≢◌, ◌⊎◌, List, [], ◌∷◌, ◌++◌, map, length, get_or, set, refl}
-use Rattle.std.proofs.Common.{sym, ◌∙◌, ap, subst, inl, inr, ⊎_elim, add-one, arith}
-use Rattle.std.proofs.lemmas.List.{get_or-set_same, get_or-set_other, get_or-map, length-map, map-id, ext_get_or}
-use Rattle.std.proofs.lemmas.List.FromFn.{length-map-range_with_len, get_or-map-range_with_len, map-range_with_len_more}
+use Rattle.std.specs.Prelude.{◌≡◌, ℕ, zero, suc, ◌+◌, ◌≤◌, List, map, length, refl}
+use Rattle.std.proofs.Common.{sym, ◌∙◌, ap, subst, ⊎_elim, arith}
+use Rattle.std.proofs.lemmas.List.{get_or-map, length-map, map-id, ext_get_or}
+use Rattle.std.proofs.lemmas.List.FromFn.{length-map-range_with_len, get_or-map-range_with_len}
 use Rattle.std.specs.List.{range_with_len}
 use Rattle.std.proofs.lemmas.Bool.{cases_eq}
 use Rattle.keepers.specs.declared.link.Link.{Link}
-use Rattle.keepers.specs.Meaning.{Upto, rep, Within, Settled, moved}
-use Rattle.keepers.specs.Links.{bare, parent, rank, climb, root, roots, Rising}
-use Rattle.keepers.specs.Reps.{moved_hit, moved_miss}
+use Rattle.keepers.specs.Meaning.{Upto, rep, Settled}
+use Rattle.keepers.specs.Links.{parent, rank, climb, root, roots, Rising}
 
 -- ranks are at most n
 abbrev pub Bounded : ℕ → List Link → Type 0

@@ -7,8 +7,8 @@ use crate::keeper::{Keeper, KeeperFault};
 
 // Whether two pictures are in one class. The meaning stays.
 pub fn is_same<K: Keeper>(k: &mut K, p: u16, q: u16) -> Result<bool, KeeperFault>
-    ensures answer { Asked p q (reps k.old) result }
-    ensures same { reps k.new ≡ reps k.old }
+    ensures answer { Asked p q (K.reps k.old) result }
+    ensures same { K.reps k.new ≡ K.reps k.old }
 {
     let a = k.find(p)?;
     let b = k.find(q)?;
@@ -17,15 +17,15 @@ pub fn is_same<K: Keeper>(k: &mut K, p: u16, q: u16) -> Result<bool, KeeperFault
 
 // Joins two pictures, and answers by how many the number of classes fell: one where it joined two classes, else none.
 pub fn join_counted<K: Keeper>(k: &mut K, p: u16, q: u16) -> Result<u8, KeeperFault>
-    ensures { Lowered p q (reps k.old) (reps k.new) result }
+    ensures { Lowered p q (K.reps k.old) (K.reps k.new) result }
 {
     Ok(k.join(p, q)?.number())
 }
 
 // The number of classes among the pictures, of which the first 65,535 are looked at. The meaning stays.
 pub fn classes<K: Keeper>(k: &mut K) -> u16
-    ensures answer { result ≡ ends (reps k.old) (min (length (reps k.old)) 65535) }
-    ensures same { reps k.new ≡ reps k.old }
+    ensures answer { result ≡ ends (K.reps k.old) (min (length (K.reps k.old)) 65535) }
+    ensures same { K.reps k.new ≡ K.reps k.old }
 {
     let mut count = 0;
     for i in 0..u16::MAX {

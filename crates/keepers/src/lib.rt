@@ -1,4 +1,5 @@
 // Class keepers, which group pictures into classes and answer a representative for each.
+#![tactic(auto)]
 
 // what a keeper is, and what its calls promise
 pub mod keeper;

@@ -1,4 +1,4 @@
-use Rattle.std.proofs.Common.{◌≡◌, ℕ, ◌+◌, ap, ◌∙◌}
+use Rattle.std.proofs.Common.{ℕ, ◌+◌, ap, ◌∙◌}
 use Rattle.keepers.specs.Meaning.{class_count}
 use Rattle.keepers.specs.Drops.{lowers}
 use Rattle.keepers.proofs.counting.join_counted.Goals as goal
@@ -8,8 +8,8 @@ returns g c =
     let k = g.K.Keeper in
     let rs = k.reps c.args.k.now in
     let rs' = k.reps c.join.new.self in
-    let o = c.in-ok-join.field-0 in
-    let d = c.in-ok-join.ensures in (
+    let o = c.in_ok-join.field-0 in
+    let d = c.in_ok-join.ensures in (
       o,
       d,
       c.number.ensures,

@@ -1,12 +1,11 @@
-use Rattle.std.proofs.Common.{◌≡◌, ℕ, ◌+◌, ◌<◌, ◌≤◌, ◌≢◌, sym, refl, ap, ◌∙◌, arith}
-use Rattle.keepers.specs.Meaning.{Upto}
-use Rattle.keepers.specs.Links.{parent, rank, root, roots, Table}
+use Rattle.std.proofs.Common.{ℕ, sym, ◌∙◌, arith}
+use Rattle.keepers.specs.Links.{parent}
 use Rattle.keepers.specs.Roots.{top, root_follows}
-use Rattle.keepers.specs.Linking.{bounded, led, led_rank, far_on, far_above, skip_root, skip_roots, skip_table}
+use Rattle.keepers.specs.Linking.{bounded, led_rank, far_on, far_above, skip_root, skip_roots, skip_table}
 use Rattle.keepers.proofs.links.halve.Goals as goal
 
-pub overflow-cast-up : goal.overflow-cast-up
-overflow-cast-up c = omega (arith, c.loop-i.invariant.1.1, c.ranges.n)
+pub overflow_cast-up : goal.overflow_cast-up
+overflow_cast-up c = omega (arith, c.loop-i.invariant.1.1, c.ranges.n)
 
 pub loop-i-preserved : goal.loop-i-preserved
 loop-i-preserved c =

@@ -1,13 +1,13 @@
-use Rattle.std.proofs.Common.{◌≡◌, ℕ, ◌+◌, ◌<◌, ◌≤◌, List, map, sym, refl, ap, ◌∙◌, subst, arith}
+use Rattle.std.proofs.Common.{◌≡◌, ℕ, ◌+◌, List, map, sym, refl, subst, arith}
 use Rattle.keepers.specs.declared.link.Link.{Link}
 use Rattle.keepers.specs.Meaning.{moved}
 use Rattle.keepers.specs.Links.{rank, roots, Table}
-use Rattle.keepers.specs.Linking.{led, raised, rank_fits, link_plain, link_raised}
+use Rattle.keepers.specs.Linking.{led, rank_fits, link_plain, link_raised}
 use Rattle.keepers.proofs.links.link.Goals.{then-links-heir, else-links-heir}
 use Rattle.keepers.proofs.links.link.Goals as goal
 
-pub overflow-add-above : goal.overflow-add-above
-overflow-add-above c =
+pub overflow_add-above : goal.overflow_add-above
+overflow_add-above c =
     let f = rank_fits c.args.n c.args.links.now c.requires.table c.args.heir c.args.lost c.requires.on.0 c.requires.on.1 c.requires.ends.0 c.requires.ends.1 c.requires.apart in
     omega (arith, f, c.ranges.n)
 

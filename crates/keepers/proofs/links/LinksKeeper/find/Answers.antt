@@ -1,4 +1,4 @@
-use Rattle.std.proofs.Common.{◌≡◌, List, length, vec_items, sym, refl, ap, ◌∙◌, subst, arith}
+use Rattle.std.proofs.Common.{List, vec_items, sym, refl, ap, ◌∙◌, subst, arith}
 use Rattle.std.proofs.lemmas.List.{with_items_is}
 use Rattle.keepers.specs.declared.link.Link.{Link}
 use Rattle.keepers.specs.Links.{root, roots, Rising, Low}
@@ -14,18 +14,18 @@ returns-then-p-eq0 c =
       same = refl;
     }
 
-pub invariant-of-self : goal.invariant-of-self
-invariant-of-self c =
+pub invariant_of-self : goal.invariant_of-self
+invariant_of-self c =
     let k = c.args.self.now in
     let t = c.halve.ensures.table in
     let e = with_items_is k.links c.halve.new.links (omega arith) in
-    (k.room, (k.few, (subst (Rising k.n) (sym e) t.rising, (subst (Low k.n) (sym e) t.low, tt))))
+    record { room = k.room; few = k.few; rising = subst (Rising k.n) (sym e) t.rising; low = subst (Low k.n) (sym e) t.low }
 
 pub returns : goal.returns
 returns c =
     let k = c.args.self.now in
     let ls = vec_items k.links in
-    let v = c.as-mut-slice.ensures.value in
+    let v = c.as_mut_slice.ensures.value in
     let e = with_items_is k.links c.halve.new.links (omega arith) in
     let l = length-roots k.n ls in
     record {

@@ -1,4 +1,4 @@
-use Rattle.std.proofs.Common.{◌≡◌, ℕ, ◌+◌, ◌<◌, length, vec_items, sym, ap, ◌∙◌, arith}
+use Rattle.std.proofs.Common.{ℕ, ◌+◌, vec_items, sym, ap, ◌∙◌, arith}
 use Rattle.keepers.specs.declared.links.Links.{Links}
 use Rattle.keepers.specs.Links.{Table}
 use Rattle.keepers.specs.Roots.{length-roots}
@@ -8,11 +8,11 @@ use Rattle.keepers.proofs.links.LinksKeeper.grow.Goals as goal
 table : (k : Links) → Table k.n (vec_items k.links)
 table k = record { room = omega (arith, k.links.ok.0, k.room, k.few); rising = k.rising; low = k.low }
 
-pub invariant-of-self : goal.invariant-of-self
-invariant-of-self c =
+pub invariant_of-self : goal.invariant_of-self
+invariant_of-self c =
     let k = c.args.self.now in
     let t = grown_table k.n (vec_items k.links) (table k) (omega (arith, k.links.ok.0, k.room)) in
-    (k.room, (omega arith, (t.rising, (t.low, tt))))
+    record { room = k.room; few = omega arith; rising = t.rising; low = t.low }
 
 pub returns : goal.returns
 returns c =

@@ -1,8 +1,8 @@
-use Rattle.std.proofs.Common.{◌≡◌, ℕ, List, length, vec_items, sym, refl, ap, ◌∙◌, subst, arith}
+use Rattle.std.proofs.Common.{ℕ, List, vec_items, sym, refl, ap, subst, arith}
 use Rattle.std.proofs.lemmas.List.{with_items_is}
 use Rattle.keepers.specs.declared.link.Link.{Link}
 use Rattle.keepers.specs.Meaning.{Did}
-use Rattle.keepers.specs.Links.{root, roots, Rising, Low}
+use Rattle.keepers.specs.Links.{roots, Rising, Low}
 use Rattle.keepers.specs.Roots.{length-roots}
 use Rattle.keepers.proofs.links.LinksKeeper.join.Goals as goal
 
@@ -20,18 +20,18 @@ returns-then-p-eq0 c =
       refl,
     )
 
-pub invariant-of-self : goal.invariant-of-self
-invariant-of-self c =
+pub invariant_of-self : goal.invariant_of-self
+invariant_of-self c =
     let k = c.args.self.now in
     let t = c.unite.ensures.table in
     let e = with_items_is k.links c.unite.new.links (omega arith) in
-    (k.room, (k.few, (subst (Rising k.n) (sym e) t.rising, (subst (Low k.n) (sym e) t.low, tt))))
+    record { room = k.room; few = k.few; rising = subst (Rising k.n) (sym e) t.rising; low = subst (Low k.n) (sym e) t.low }
 
 pub returns : goal.returns
 returns c =
     let k = c.args.self.now in
     let ls = vec_items k.links in
-    let v = c.as-mut-slice.ensures.value in
+    let v = c.as_mut_slice.ensures.value in
     let e = with_items_is k.links c.unite.new.links (omega arith) in
     let l = length-roots k.n ls in (
       (omega arith, omega arith),
