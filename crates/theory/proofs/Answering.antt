@@ -1,7 +1,7 @@
 -- Each call has an answer, and one only apart from the steps of its chain. Assumes nothing.
 use Rattle.std.proofs.Common.{◌≡◌, ℕ, zero, suc, ◌+◌, ◌-◌, ◌<◌, ◌≤◌, Bool, true, false, ◌⊎◌, List, [], ◌∷◌, ◌++◌, length, All, sym, refl, ap, ◌∙◌, subst, ap₂, inl, inr, ⊎_elim, arith, length-append}
 use native.Mathlib.Decide.{dec_le, ℕ_discrete}
-use Rattle.std.proofs.lemmas.List.Elements.{All-weaker, All-push}
+use Rattle.std.proofs.lemmas.List.Elements.{All-weaker, All-push, All-cons, All-head, All-nil, All-tail}
 use Rattle.theory.specs.Sheet.{Picture, Entry, same, differ, Reading, On, Placed, Proper, Satisfies, Keeps, Is, Congruence, Closure, Lowest, Counts, Classes, First, Breaks, Broken, Bears, Applies}
 use Rattle.theory.specs.Calls.{Call, add, tell, must, why, lock, reopen, value, apply, Refusal, few_cells, no_picture, full, contradiction, many_inputs, apart, Answer, added, joined, noted, told, explained, turned, valued, refused, Content, with_picture, Unless, Impossible, Differs, Shown, Contradicted, Taken, Answers, Alike, AnswerLaw}
 use Rattle.theory.proofs.Closed.{c_refl, lowest_same}
@@ -27,8 +27,13 @@ dec_or A B (no n) (yes b) = yes (inr b)
 dec_or A B (no n) (no m) = no (λ h. ⊎_elim n m h)
 
 dec_all : (P : List Picture) (ps : List ℕ) → Dec (All (On P) ps)
-dec_all P [] = yes tt
-dec_all P (p ∷ ps) = dec_and (On P p) (All (On P) ps) (dec_on P p) (dec_all P ps)
+dec_all P [] = yes (All-nil _)
+dec_all P (p ∷ ps) = go (dec_on P p) (dec_all P ps)
+  where
+    go : Dec (On P p) → Dec (All (On P) ps) → Dec (All (On P) (p ∷ ps))
+    go (yes a) (yes b) = yes (All-cons (On P) p ps a b)
+    go (yes a) (no n) = no (λ h. n (All-tail (On P) p ps h))
+    go (no n) d = no (λ h. n (All-head (On P) p ps h))
 
 dec_placed : (P : List Picture) (e : Entry) → Dec (Placed P e)
 dec_placed P (same a b) = dec_and (On P a) (On P b) (dec_on P a) (dec_on P b)

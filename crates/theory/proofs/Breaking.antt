@@ -2,7 +2,8 @@
 use Rattle.std.proofs.Common.{◌≡◌, ℕ, zero, suc, ◌+◌, ◌<◌, ◌≤◌, eqb, ◌≢◌, ◌⊎◌, List, [], ◌∷◌, ◌++◌, length, sym, refl, ap, ◌∙◌, subst, subst₂, inl, inr, append-nil, arith, length-append}
 use native.Mathlib.Decide.{dec_le}
 use Rattle.std.proofs.lemmas.Bool.{eq-eqb, eqb-true}
-use Rattle.theory.specs.Sheet.{Picture, Entry, same, differ, Reading, On, Is, value, Satisfies, Closure, First, Breaks, Broken}
+use Rattle.std.proofs.lemmas.List.Elements.{All-head, All-nil, All-tail}
+use Rattle.theory.specs.Sheet.{Picture, Entry, same, differ, Reading, On, Is, value, Holds, Satisfies, Closure, First, Breaks, Broken}
 use Rattle.theory.specs.Reasons.{Equivalence}
 use Rattle.theory.specs.Calls.{tell, Refusal, few_cells, no_picture, full, contradiction, many_inputs, apart, number, detail, added, joined, noted, told, explained, turned, valued, refused, Content, Unless, Differs, Shown, Contradicted, Taken, Answers, refusal_number, refusal_steps, steps}
 use Rattle.theory.specs.Numbers.{At}
@@ -114,8 +115,8 @@ apart_at : (r : Reading) (P : List Picture) (E : List Entry) (k a b : ℕ) → S
 apart_at r P [] k a b h d = absurd d
 apart_at r P (x ∷ E) zero a b h d = absurd d
 apart_at r P (same u v ∷ E) (suc zero) a b h d = absurd d
-apart_at r P (differ u v ∷ E) (suc zero) a b h d = subst₂ (λ x y. value r P x ≢ value r P y) d.0 d.1 h.0
-apart_at r P (x ∷ E) (suc (suc k)) a b h d = apart_at r P E (suc k) a b h.1 d
+apart_at r P (differ u v ∷ E) (suc zero) a b h d = subst₂ (λ x y. value r P x ≢ value r P y) d.0 d.1 (All-head (Holds r P) (differ u v) E h)
+apart_at r P (x ∷ E) (suc (suc k)) a b h d = apart_at r P E (suc k) a b (All-tail (Holds r P) x E h) d
 
 pub detail_law : DetailLaw
 detail_law cap s w sat a b cells f four = (own, earlier)
@@ -197,7 +198,7 @@ steps_law cap s cells = (
 
 pub no_steps_law : NoStepsLaw
 no_steps_law P E a b = (
-  (λ x. (x.1.0, eqb-true a b (x.1.2 eqb equal tt))),
+  (λ x. (x.1.0, eqb-true a b (x.1.2 eqb equal (All-nil _)))),
   (λ x. (tt, (x.0, subst (λ y. On P y) x.1 x.0, λ R g t. subst (λ y. Is R a y) x.1 (g.reflexive a x.0)))),
 )
   where

@@ -3,6 +3,7 @@ use Rattle.std.proofs.Common.{◌≡◌, ℕ, zero, suc, ◌≤◌, Bool, true, 
 use lib.ListN.{length-map}
 use Rattle.std.specs.List.{AllZip}
 use Rattle.std.proofs.lemmas.Bool.{eqb-true, eqb-false, and_parts, both_ways, not-true}
+use Rattle.std.proofs.lemmas.List.Elements.{All-nil}
 use Rattle.theory.specs.Sheet.{Picture, Entry, same, differ, On, Proper, Is, operation, inputs, Twins}
 use Rattle.theory.specs.Reasons.{Reason, by_entry, by_twins, left, right, JoinedBy, Number, Fits, Derivation}
 use Rattle.theory.specs.Parts.{Joins}
@@ -10,6 +11,7 @@ use Rattle.theory.specs.Journal.{Tracks}
 use Rattle.theory.proofs.Journals.{join_more_law, tracks_law, tracks_more_law}
 use Rattle.theory.proofs.Slices.{l_refl}
 use Rattle.theory.proofs.Naive.{label, eqs, twin?, to, to_hit, to_miss, merge, fresh, on?, on_on, label_map, label_fresh, length-fresh, inputs_on}
+use Rattle.theory.proofs.Each.{uncons}
 
 abbrev pub number? : ℕ → List Entry → ℕ → ℕ → Bool
 number? k [] l r = false
@@ -97,7 +99,9 @@ module _ (P : List Picture) (E : List Entry) where
     joined-each J M t (x ∷ xs) [] h k e = both_ways false refl e
     joined-each J M t (x ∷ xs) (y ∷ ys) h k e =
         let q = and_parts (eqb (label M x) (label M y)) (eqs (map (label M) xs) (map (label M) ys)) e in
-        (t.told x y h.0 k.0 (eqb-true _ _ q.0), joined-each J M t xs ys h.1 k.1 q.1)
+        let u = uncons (On P) x xs h in
+        let v = uncons (On P) y ys k in
+        (t.told x y u.0 v.0 (eqb-true _ _ q.0), joined-each J M t xs ys u.1 v.1 q.1)
 
     pub fits-from : (J : List Reason) (M : List ℕ) → Tracks P J (label M) → (s : Reason) → On P (left s) → On P (right s) → fits? P E M s ≡ true → Fits P E J s
     fits-from J M t (by_entry l r k) ol or f = number_from k E l r f
@@ -122,7 +126,7 @@ module _ (P : List Picture) (E : List Entry) where
         subst (λ K. Grown K (linked (merge M (left s) (right s)) T)) (append_assoc J (s ∷ []) T) (chain-from (J ++ s ∷ []) (merge M (left s) (right s)) m.0 new T d.1)
 
     pub start : Grown [] (fresh 1 P)
-    start = (tt, record { told = λ x y ox oy e. subst (λ z. JoinedBy P [] x z) (sym (label_fresh P x ox) ∙ e ∙ label_fresh P y oy) (l_refl P [] x ox); held = tt })
+    start = (tt, record { told = λ x y ox oy e. subst (λ z. JoinedBy P [] x z) (sym (label_fresh P x ox) ∙ e ∙ label_fresh P y oy) (l_refl P [] x ox); held = All-nil _ })
 
     -- WHERE THE TEST PASSES, the steps are a chain, and join what gets one label
     pub shown-from : (T : List Reason) → chain? P E (fresh 1 P) T ≡ true →

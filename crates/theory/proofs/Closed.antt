@@ -3,7 +3,9 @@ use Rattle.std.proofs.Common.{◌≡◌, ℕ, zero, suc, ◌<◌, ◌≤◌, Boo
 use native.Mathlib.Decide.{dec_le}
 use Rattle.std.proofs.lemmas.Bool.{both_ways}
 use Rattle.std.specs.List.{AllZip}
+use Rattle.std.proofs.lemmas.List.Elements.{All-cons, All-head, All-nil, All-tail}
 use Rattle.theory.specs.Sheet.{Picture, Entry, same, differ, On, Ordered, Placed, Proper, operation, inputs, Keeps, Is, Twins, Congruence, Closure, Lowest}
+use Rattle.theory.proofs.Each.{uncons}
 
 stable_le : (m n : ℕ) → ¬ ¬ (m ≤ n) → m ≤ n
 stable_le m n k = go (dec_le m n)
@@ -44,9 +46,13 @@ module _ (P : List Picture) (E : List Entry) where
   c_twins a b oa ob t = (oa, ob, λ R g. g.twins a b oa ob (t.0, all_is R g (inputs P a) (inputs P b) t.1))
 
   kept : (F : List Entry) → All (Placed P) F → ((R : ℕ → ℕ → Bool) → Congruence P E R → All (Keeps (Is R)) F) → All (Keeps (Closure P E)) F
-  kept [] w k = tt
-  kept (same a b ∷ F) w k = ((w.0.0, w.0.1, λ R g. (k R g).0), kept F w.1 (λ R g. (k R g).1))
-  kept (differ a b ∷ F) w k = (tt, kept F w.1 (λ R g. (k R g).1))
+  kept [] w k = All-nil _
+  kept (same a b ∷ F) w k =
+      let v = uncons (Placed P) (same a b) F w in
+      All-cons (Keeps (Closure P E)) (same a b) F (v.0.0, v.0.1, λ R g. All-head (Keeps (Is R)) (same a b) F (k R g))
+      (kept F v.1 (λ R g. All-tail (Keeps (Is R)) (same a b) F (k R g)))
+  kept (differ a b ∷ F) w k =
+      All-cons (Keeps (Closure P E)) (differ a b) F tt (kept F (All-tail (Placed P) (differ a b) F w) (λ R g. All-tail (Keeps (Is R)) (differ a b) F (k R g)))
 
   pub c_keeps : All (Placed P) E → All (Keeps (Closure P E)) E
   c_keeps w = kept E w (λ R g. g.keeps)

@@ -1,7 +1,7 @@
 -- The worked examples, by one test that the checker computes. Assumes nothing.
 use Rattle.std.proofs.Common.{◌≡◌, ℕ, zero, suc, ◌+◌, ◌-◌, ◌<◌, ◌≤◌, Bool, true, false, cond, not, ◌&&◌, ◌||◌, eqb, leb, ◌⊎◌, List, [], ◌∷◌, ◌++◌, map, length, All, refl, subst, inl, inr, ⊎_elim, arith}
-use Rattle.std.specs.List.{AllZip}
-use Rattle.std.proofs.lemmas.List.Elements.{All-weaker}
+use Rattle.std.specs.List.{AllZip, AllByRecursion}
+use Rattle.std.proofs.lemmas.List.Elements.{All-weaker, All-from_recursion, All-head, All-tail}
 use Rattle.std.proofs.lemmas.Bool.{eq-eqb, eqb-true, eqb-false, leb-true, leb-false, le-leb, and_parts, and_from, or_cases, or_parts, both_ways, not-true, not-false}
 use Rattle.theory.specs.Sheet.{Picture, Entry, same, differ, Reading, On, Proper, Placed, operation, inputs, Satisfies, Closure, Lowest, Counts, Classes, First, Breaks, Broken, Bears, Applies}
 use Rattle.theory.specs.Statements.{Known}
@@ -13,6 +13,7 @@ use Rattle.theory.proofs.Closed.{c_refl, lowest_same, lowest_joins}
 use Rattle.theory.proofs.Naive.{label, eqs, merge, upto, each?, on?, placed?, proper?, closed?, close, fresh, placed_from, proper_from, lowest-label, upto_at, each_at, on_on, inputs_on, good-close, some_upto}
 use Rattle.theory.proofs.Laws.{broken_none, locked, locked_locked, locked-satisfies}
 use Rattle.theory.proofs.Chains.{fits?, linked, chain?, shown-from}
+use Rattle.theory.proofs.Each.{uncons}
 
 abbrev pub fit? : List Picture → List Entry → Bool
 fit? P E = proper? P E && closed? P E (close P E)
@@ -241,10 +242,10 @@ module _ (P : List Picture) (E : List Entry) (t : fit? P E ≡ true) where
   firsts [] w k h = both_ways false refl h
   firsts (x ∷ F) w zero h = both_ways false refl h
   firsts (same a b ∷ F) w (suc zero) h = both_ways false refl h
-  firsts (differ a b ∷ F) w (suc zero) h = closed_from a b w.0.0 w.0.1 (eqb-true _ _ h)
+  firsts (differ a b ∷ F) w (suc zero) h = let v = All-head (Placed P) (differ a b) F w in closed_from a b v.0 v.1 (eqb-true _ _ h)
   firsts (x ∷ F) w (suc (suc k)) h =
       let t = and_parts (not (joined? L x)) (first? (joined? L) (suc k) F) h in
-      (not_joined x (not-true _ t.0), firsts F w.1 (suc k) t.1)
+      (not_joined x (not-true _ t.0), firsts F (All-tail (Placed P) x F w) (suc k) t.1)
 
   pub broken_from : (k : ℕ) → first? (joined? L) k E ≡ true → Broken P E k
   broken_from k h = firsts E proper.1 k h
@@ -272,7 +273,8 @@ module _ (P : List Picture) (E : List Entry) (t : fit? P E ≡ true) where
       of_row (i ∷ is) [] w e = both_ways false refl e
       of_row (i ∷ is) (y ∷ ys) w e =
           let r = and_parts (eqb (label L i) y) (eqs (map (label L) is) ys) e in
-          (subst (λ x. Lowest P E i x) (eqb-true _ _ r.0) (lows i w.0), of_row is ys w.1 r.1)
+          let v = uncons (On P) i is w in
+          (subst (λ x. Lowest P E i x) (eqb-true _ _ r.0) (lows i v.0), of_row is ys v.1 r.1)
 
       bearing : (p : ℕ) → Bears P E o xs p → bears? P L o xs p ≡ true
       bearing p b = and_from _ _ (eq-eqb _ _ b.1) (row_of (inputs P p) xs b.2)
@@ -349,7 +351,7 @@ checked false bad f r next t y n k h = inr (n refl, k refl h)
 
 each_test : {X : Type 0} (f : X → Bool) (Q : X → Type 0) → ((x : X) → Q x → f x ≡ true) → (xs : List X) → All Q xs → each? f xs ≡ true
 each_test f Q k [] h = refl
-each_test f Q k (x ∷ xs) h = and_from _ _ (k x h.0) (each_test f Q k xs h.1)
+each_test f Q k (x ∷ xs) h = let p = uncons Q x xs h in and_from _ _ (k x p.0) (each_test f Q k xs p.1)
 
 on_test : (P : List Picture) (p : ℕ) → On P p → on? P p ≡ true
 on_test P p o = and_from _ _ (le-leb 1 p o.0) (le-leb p (length P) o.1)
@@ -528,12 +530,12 @@ Computed x =
     let s = leaves empty l in
     (goes? x.capacity empty (calls x) ≡ true) × (l ≡ x.log) × (count_to (close s.pictures s.entries) (length s.pictures) ≡ x.classes)
 
-computed : All Computed examples
+computed : AllByRecursion Computed examples
 unfolding examples
 computed = ((refl, refl, refl), ((refl, refl, refl), ((refl, refl, refl), ((refl, refl, refl), ((refl, refl, refl), ((refl, refl, refl), ((refl, refl, refl), ((refl, refl, refl), ((refl, refl, refl), ((refl, refl, refl), ((refl, refl, refl), ((refl, refl, refl), ((refl, refl, refl), ((refl, refl, refl), ((refl, refl, refl), tt)))))))))))))))
 
 pub examples_law : ExamplesLaw
-examples_law = All-weaker Computed _ right examples computed
+examples_law = All-weaker Computed _ right examples (All-from_recursion Computed examples computed)
   where
     right : (x : Example) → Computed x → Goes x.capacity empty x.log × (let s = leaves empty x.log in Classes s.pictures s.entries x.classes)
     right x c =

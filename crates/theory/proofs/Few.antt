@@ -2,6 +2,7 @@
 use Rattle.std.proofs.Common.{◌≡◌, ℕ, zero, suc, ◌+◌, ◌-◌, ◌<◌, ◌≤◌, Bool, true, false, cond, eqb, ◌≢◌, ◌⊎◌, List, [], ◌∷◌, length, sym, refl, ap, ◌∙◌, subst, inl, inr, arith}
 use native.Mathlib.Decide.{ℕ_discrete}
 use Rattle.std.proofs.lemmas.Bool.{cases_eq, cond-true, cond-false, eq-eqb, ne_eqb}
+use Rattle.std.proofs.lemmas.List.Elements.{All-tail}
 use Rattle.theory.specs.Sheet.{Picture, Entry, On, Proper}
 use Rattle.theory.specs.Reasons.{Reason, by_entry, by_twins, left, right, JoinedBy, Number, Fits, Derivation}
 use Rattle.theory.specs.Slices.{FewLaw}
@@ -42,7 +43,7 @@ module _ (P : List Picture) (S : List Reason) (f : ℕ → ℕ) (h : Reps P S f)
         r = right s
 
         up : (x y : ℕ) → JoinedBy P S x y → JoinedBy P (s ∷ S) x y
-        up = l_more P S (s ∷ S) (λ Q a. a.1)
+        up = l_more P S (s ∷ S) (λ Q a. All-tail Q s S a)
 
         on : (x : ℕ) → On P x → On P (joined_at f l r x)
         on x o = go (ℕ_discrete (f x) (f l))

@@ -3,7 +3,7 @@ use Rattle.std.proofs.Common.{◌≡◌, ℕ, zero, suc, ◌+◌, ◌<◌, ◌�
 use native.Mathlib.Decide.{ℕ_discrete, dec_le}
 use lib.ListN.{get_or-append}
 use Rattle.std.specs.List.{AllZip}
-use Rattle.std.proofs.lemmas.List.Elements.{All-weaker}
+use Rattle.std.proofs.lemmas.List.Elements.{All-weaker, All-cons, All-nil, All-tail}
 use Rattle.std.proofs.lemmas.Bool.{eq-eqb, eqb-true}
 use Rattle.theory.specs.Sheet.{Picture, Entry, same, differ, Reading, On, Ordered, Placed, Proper, picture, blank, value_to, operation, inputs, Holds, Is, Keeps, Twins, Congruence, Closure, Lowest}
 use Rattle.theory.specs.Laws.{AddLaw}
@@ -11,6 +11,7 @@ use Rattle.theory.proofs.Closed.{c_refl, c_sym, c_trans, c_twins, c_keeps, lowes
 use Rattle.theory.proofs.Laws.{dec_on}
 use Rattle.theory.proofs.Settled.{known_all}
 use Rattle.theory.proofs.Values.{map_same}
+use Rattle.theory.proofs.Each.{uncons}
 
 at_end : (P : List Picture) (x : Picture) → get_or (P ++ (x ∷ [])) (length P) blank ≡ x
 at_end [] x = refl
@@ -47,21 +48,25 @@ module _ (P : List Picture) (x : Picture) where
 
       go : Dec (p ≤ length P) → Fine p (picture P' p)
       go (yes h) = subst (λ y. Fine p y) (sym (kept_picture p h)) (o p (on.0, h))
-      go (no n) = subst (λ y. Fine p y) (sym (new_picture p (last n))) (few, All-weaker _ _ (λ i h. (h.0, omega (arith, last n, h.1))) x.inputs ins)
+      go (no n) = subst (λ y. Fine p y) (sym (new_picture p (last n))) (few, All-weaker (On P) (λ i. (1 ≤ i) × (i < p)) (λ i h. (h.0, omega (arith, last n, h.1))) x.inputs ins)
 
   pub stable : Ordered P → (r : Reading) (d p : ℕ) → On P p → value_to r P' d p ≡ value_to r P d p
   stable o r zero p on = refl
   stable o r (suc d) p on =
       ap (λ y. r y.operation (map (value_to r P' d) y.inputs)) (kept_picture p on.1)
       ∙ ap (r (operation P p)) (map_same (value_to r P' d) (value_to r P d) (inputs P p)
-      (All-weaker _ _ (λ i h. stable o r d i (h.0, omega (arith, h.1, on.1))) (inputs P p) (o p on).1))
+      (All-weaker (λ i. (1 ≤ i) × (i < p)) (λ i. value_to r P' d i ≡ value_to r P d i) (λ i h. stable o r d i (h.0, omega (arith, h.1, on.1))) (inputs P p) (o p on).1))
 
   pub holds_more : Ordered P → (r : Reading) (F : List Entry) → All (Placed P) F → All (Holds r P) F → All (Holds r P') F
-  holds_more o r [] w h = tt
+  holds_more o r [] w h = All-nil _
   holds_more o r (same a b ∷ F) w h =
-      (stable o r a a w.0.0 ∙ h.0 ∙ sym (stable o r b b w.0.1), holds_more o r F w.1 h.1)
+      let v = uncons (Placed P) (same a b) F w in
+      let k = uncons (Holds r P) (same a b) F h in
+      All-cons (Holds r P') (same a b) F (stable o r a a v.0.0 ∙ k.0 ∙ sym (stable o r b b v.0.1)) (holds_more o r F v.1 k.1)
   holds_more o r (differ a b ∷ F) w h =
-      (λ e. h.0 (sym (stable o r a a w.0.0) ∙ e ∙ stable o r b b w.0.1), holds_more o r F w.1 h.1)
+      let v = uncons (Placed P) (differ a b) F w in
+      let k = uncons (Holds r P) (differ a b) F h in
+      All-cons (Holds r P') (differ a b) F (λ e. k.0 (sym (stable o r a a v.0.0) ∙ e ∙ stable o r b b v.0.1)) (holds_more o r F v.1 k.1)
 
 -- THE CLOSURE ON THE EARLIER PICTURES
 module _ (P : List Picture) (x : Picture) (E : List Entry) (w : Proper P E) (ins : All (On P) x.inputs) where
@@ -199,15 +204,18 @@ module _ (P : List Picture) (x : Picture) (E : List Entry) (w : Proper P E) (ins
   each_told [] [] u v e = tt
   each_told [] (y ∷ ys) u v e = absurd e
   each_told (a ∷ xs) [] u v e = absurd e
-  each_told (a ∷ xs) (y ∷ ys) u v e = (told a y u.0 v.0 (eqb-true _ _ e.0), each_told xs ys u.1 v.1 e.1)
+  each_told (a ∷ xs) (y ∷ ys) u v e =
+      let p = uncons (On P) a xs u in
+      let q = uncons (On P) y ys v in
+      (told a y p.0 q.0 (eqb-true _ _ e.0), each_told xs ys p.1 q.1 e.1)
 
   ins_on : (p : ℕ) → On P p → All (On P) (inputs P p)
-  ins_on p on = All-weaker _ _ (λ i h. (h.0, omega (arith, h.1, on.1))) (inputs P p) (w.0 p on).1
+  ins_on p on = All-weaker (λ i. (1 ≤ i) × (i < p)) (On P) (λ i h. (h.0, omega (arith, h.1, on.1))) (inputs P p) (w.0 p on).1
 
   label_keeps : (F : List Entry) → All (Keeps (Closure P E)) F → All (Keeps (Is by_label)) F
-  label_keeps [] k = tt
-  label_keeps (same a b ∷ F) k = (eq-eqb _ _ (tell a b k.0), label_keeps F k.1)
-  label_keeps (differ a b ∷ F) k = (tt, label_keeps F k.1)
+  label_keeps [] k = All-nil _
+  label_keeps (same a b ∷ F) k = let h = uncons (Keeps (Closure P E)) (same a b) F k in All-cons (Keeps (Is by_label)) (same a b) F (eq-eqb _ _ (tell a b h.0)) (label_keeps F h.1)
+  label_keeps (differ a b ∷ F) k = All-cons (Keeps (Is by_label)) (differ a b) F tt (label_keeps F (All-tail (Keeps (Closure P E)) (differ a b) F k))
 
   extended : Congruence (P ++ (x ∷ [])) E by_label
   extended =

@@ -3,7 +3,7 @@ use Rattle.std.proofs.Common.{◌≡◌, ℕ, zero, suc, ◌+◌, ◌<◌, ◌�
 use native.Mathlib.Decide.{dec_le}
 use Rattle.std.specs.List.{AllZip}
 use Rattle.std.proofs.lemmas.List.{get_or_append_left}
-use Rattle.std.proofs.lemmas.List.Elements.{All-push, All-weaker, All-append}
+use Rattle.std.proofs.lemmas.List.Elements.{All-push, All-weaker, All-cons, All-head, All-nil, All-tail}
 use Rattle.std.proofs.lemmas.Bool.{cond-true, cond-false, le-leb, lt-leb, eq-eqb, eqb-true}
 use Rattle.theory.specs.Sheet.{Picture, Entry, same, differ, blank, picture, operation, inputs, On, Ordered, Proper, Is, Twins}
 use Rattle.theory.specs.Reasons.{Reason, by_entry, by_twins, left, right, Equivalence, JoinedBy, Number, Fits, Derivation, StepLaw}
@@ -11,6 +11,7 @@ use Rattle.theory.specs.Parts.{Joins}
 use Rattle.theory.specs.Journal.{JoinMoreLaw, EntryMoreLaw, PictureMoreLaw, Tracks, TracksLaw, TracksMoreLaw}
 use Rattle.theory.proofs.Slices.{Part, l_refl, l_sym, l_trans, l_step, l_more}
 use Rattle.theory.proofs.Few.{ends_on}
+use Rattle.theory.proofs.Each.{uncons}
 
 each_more : (R Q : ℕ → ℕ → Type 0) → ((x y : ℕ) → R x y → Q x y) → (xs ys : List ℕ) → AllZip R xs ys → AllZip Q xs ys
 each_more R Q h [] [] e = tt
@@ -25,11 +26,11 @@ past S (t ∷ T) = past (t ∷ S) T
 
 past_all : (Q : Reason → Type 0) (S T : List Reason) → All Q S → All Q T → All Q (past S T)
 past_all Q S [] a b = a
-past_all Q S (t ∷ T) a b = past_all Q (t ∷ S) T (b.0, a) b.1
+past_all Q S (t ∷ T) a b = let h = uncons Q t T b in past_all Q (t ∷ S) T (All-cons Q t S h.0 a) h.1
 
 past_has : (Q : Reason → Type 0) (S T : List Reason) → All Q (past S T) → All Q S × All Q T
-past_has Q S [] a = (a, tt)
-past_has Q S (t ∷ T) a = let r = past_has Q (t ∷ S) T a in (r.0.1, (r.0.0, r.1))
+past_has Q S [] a = (a, All-nil _)
+past_has Q S (t ∷ T) a = let r = past_has Q (t ∷ S) T a in let h = uncons Q t S r.0 in (h.1, All-cons Q t T h.0 r.1)
 
 pub fits_more : (P : List Picture) (E : List Entry) (S V : List Reason) → Part S V → (s : Reason) → Fits P E S s → Fits P E V s
 fits_more P E S V p (by_entry l r k) f = f
@@ -41,7 +42,7 @@ push P E V s f n S [] p q c = (fits_more P E V S p s f, (λ l. n (l_more P S V q
 push P E V s f n S (t ∷ T) p q c = (c.0, c.1, push P E V s f n (t ∷ S) T p q c.2)
 
 pub join_more_law : JoinMoreLaw
-join_more_law P E J s c f n = push P E J s f n [] J (λ Q a. (past_has Q [] J a).1) (λ Q a. past_all Q [] J tt a) c
+join_more_law P E J s c f n = push P E J s f n [] J (λ Q a. (past_has Q [] J a).1) (λ Q a. past_all Q [] J (All-nil _) a) c
 
 -- ONE STEP OF A CHAIN
 parted : (P : List Picture) (E : List Entry) (R S : List Reason) (s : Reason) (T : List Reason) → Derivation P E R (S ++ s ∷ T) →
@@ -53,7 +54,7 @@ after_those : (P : List Picture) (E : List Entry) (S : List Reason) (s : Reason)
     Fits P E S s × (¬ JoinedBy P S (left s) (right s))
 after_those P E S s T c =
     let h = parted P E [] S s T c in
-    (fits_more P E (past [] S) S (λ Q a. past_all Q [] S tt a) s h.0, (λ j. h.1 (l_more P S (past [] S) (λ Q a. (past_has Q [] S a).1) _ _ j)))
+    (fits_more P E (past [] S) S (λ Q a. past_all Q [] S (All-nil _) a) s h.0, (λ j. h.1 (l_more P S (past [] S) (λ Q a. (past_has Q [] S a).1) _ _ j)))
 
 pub step_law : StepLaw
 step_law P E S T l r = (
@@ -138,8 +139,11 @@ module _ (P : List Picture) (p : Picture) where
           }
 
       meets : (R : ℕ → ℕ → Bool) (S : List Reason) → All Ends S → All (λ s. Is R (left s) (right s)) S → All (λ s. Is R (old (left s)) (old (right s))) S
-      meets R [] e h = tt
-      meets R (s ∷ S) e h = (subst₂ (λ x y. Is R x y) (sym (old_is (left s) e.0.0)) (sym (old_is (right s) e.0.1)) h.0, meets R S e.1 h.1)
+      meets R [] e h = All-nil _
+      meets R (s ∷ S) e h =
+          let o = uncons Ends s S e in
+          let k = uncons (λ s. Is R (left s) (right s)) s S h in
+          All-cons (λ s. Is R (old (left s)) (old (right s))) s S (subst₂ (λ x y. Is R x y) (sym (old_is (left s) o.0.0)) (sym (old_is (right s) o.0.1)) k.0) (meets R S o.1 k.1)
 
   fit_up : (E : List Entry) (S : List Reason) (s : Reason) → Fits P E S s → Fits (P ++ p ∷ []) E S s
   fit_up E S (by_entry l r k) f = f
@@ -160,14 +164,14 @@ module _ (P : List Picture) (p : Picture) where
   chain_up E w S [] e c = tt
   chain_up E w S (s ∷ T) e c =
       let o = ends_on P E w S s c.0 in
-      (fit_up E S s c.0, (λ l. c.1 (down S e (left s) (right s) o.0 o.1 l)), chain_up E w (s ∷ S) T (o, e) c.2)
+      (fit_up E S s c.0, (λ l. c.1 (down S e (left s) (right s) o.0 o.1 l)), chain_up E w (s ∷ S) T (All-cons Ends s S o e) c.2)
 
 pub picture_more_law : PictureMoreLaw
-picture_more_law P p E w J c = chain_up P p E w [] J tt c
+picture_more_law P p E w J c = chain_up P p E w [] J (All-nil _) c
 
 -- LABELS
 pub tracks_law : TracksLaw
-tracks_law P J f t x y l = eqb-true (f x) (f y) (l.2 (λ a b. eqb (f a) (f b)) same_label (All-weaker _ _ (λ s h. eq-eqb _ _ h.2) J t.held))
+tracks_law P J f t x y l = eqb-true (f x) (f y) (l.2 (λ a b. eqb (f a) (f b)) same_label (All-weaker (λ s. On P (left s) × On P (right s) × (f (left s) ≡ f (right s))) (λ s. Is (λ a b. eqb (f a) (f b)) (left s) (right s)) (λ s h. eq-eqb _ _ h.2) J t.held))
   where
     same_label : Equivalence P (λ a b. eqb (f a) (f b))
     same_label =
@@ -184,15 +188,15 @@ tracks_more_law P J s f g t ol or j = record { told = λ x y ox oy e. told x y o
     grow = l_more P J (J ++ s ∷ []) (λ Q a. front Q J a)
       where
         front : (Q : Reason → Type 0) (J : List Reason) → All Q (J ++ s ∷ []) → All Q J
-        front Q [] a = tt
-        front Q (k ∷ J) a = (a.0, front Q J a.1)
+        front Q [] a = All-nil _
+        front Q (k ∷ J) a = let h = uncons Q k (J ++ s ∷ []) a in All-cons Q k J h.0 (front Q J h.1)
 
     new : JoinedBy P (J ++ s ∷ []) (left s) (right s)
     new = (ol, or, λ R q h. last R J h)
       where
         last : (R : ℕ → ℕ → Bool) (J : List Reason) → All (λ s. Is R (left s) (right s)) (J ++ s ∷ []) → Is R (left s) (right s)
-        last R [] h = h.0
-        last R (k ∷ J) h = last R J h.1
+        last R [] h = All-head (λ s. Is R (left s) (right s)) s [] h
+        last R (k ∷ J) h = last R J (All-tail (λ s. Is R (left s) (right s)) k (J ++ s ∷ []) h)
 
     told : (x y : ℕ) → On P x → On P y → (f x ≡ f y) ⊎ (((f x ≡ f (left s)) × (f y ≡ f (right s))) ⊎ ((f x ≡ f (right s)) × (f y ≡ f (left s)))) → JoinedBy P (J ++ s ∷ []) x y
     told x y ox oy (inl e) = grow x y (t.told x y ox oy e)
@@ -206,4 +210,4 @@ tracks_more_law P J s f g t ol or j = record { told = λ x y ox oy e. told x y o
     held : All (λ k. On P (left k) × On P (right k) × (g (left k) ≡ g (right k))) (J ++ s ∷ [])
     held =
         All-push (λ k. On P (left k) × On P (right k) × (g (left k) ≡ g (right k))) J s
-        (All-weaker _ _ (λ k h. (h.0, h.1, j.keeps (left k) (right k) h.0.0 h.0.1 h.1.0 h.1.1 h.2)) J t.held) (ol, or, j.meets)
+        (All-weaker (λ k. On P (left k) × On P (right k) × (f (left k) ≡ f (right k))) (λ k. On P (left k) × On P (right k) × (g (left k) ≡ g (right k))) (λ k h. (h.0, h.1, j.keeps (left k) (right k) h.0.0 h.0.1 h.1.0 h.1.1 h.2)) J t.held) (ol, or, j.meets)

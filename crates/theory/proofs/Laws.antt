@@ -3,12 +3,13 @@ use Rattle.std.proofs.Common.{◌≡◌, ℕ, zero, suc, ◌<◌, ◌≤◌, Boo
 use native.Mathlib.Decide.{ℕ_discrete, dec_le}
 use lib.ListN.{length-map}
 use Rattle.std.specs.List.{AllZip}
-use Rattle.std.proofs.lemmas.List.Elements.{All-weaker}
+use Rattle.std.proofs.lemmas.List.Elements.{All-weaker, All-cons, All-head, All-nil, All-tail}
 use Rattle.theory.specs.Sheet.{Picture, Entry, same, differ, Reading, On, Ordered, Placed, Proper, value, value_to, operation, inputs, Holds, Satisfies, Keeps, Is, Twins, Congruence, Closure, Lowest, First, Breaks, Broken, Bears, Applies, Locked}
 use Rattle.theory.specs.Statements.{ValueLaw, Known, Satisfiable, ContradictionLaw, MustLaw, LockedLaw}
 use Rattle.theory.proofs.Values.{sound}
 use Rattle.theory.proofs.Settled.{known_all}
 use Rattle.theory.proofs.Closed.{c_refl, c_sym, c_trans, c_twins, c_keeps, lowest_same, lowest_joins, lowest_moves, each_joins}
+use Rattle.theory.proofs.Each.{uncons}
 
 -- LISTS. If Q is nowhere first, it is nowhere
 later : {X : Type 0} (Q : X → Type 0) (k : ℕ) (x : X) (xs : List X) → ¬ Q x → First Q k xs → First Q (suc k) (x ∷ xs)
@@ -17,13 +18,13 @@ later Q zero x (y ∷ ys) n f = absurd f
 later Q (suc k) x (y ∷ ys) n f = (n, f)
 
 pub nowhere : {X : Type 0} (Q : X → Type 0) (xs : List X) → ((k : ℕ) → ¬ First Q k xs) → All (λ x. ¬ Q x) xs
-nowhere Q [] h = tt
-nowhere Q (x ∷ xs) h = (h 1, nowhere Q xs (λ k f. h (suc k) (later Q k x xs (h 1) f)))
+nowhere Q [] h = All-nil _
+nowhere Q (x ∷ xs) h = All-cons (λ y. ¬ Q y) x xs (h 1) (nowhere Q xs (λ k f. h (suc k) (later Q k x xs (h 1) f)))
 
 -- the first place, if there is one
 pub find : {X : Type 0} (Q : X → Type 0) (xs : List X) → All (λ x. Dec (Q x)) xs → ((k : ℕ) × First Q k xs) ⊎ ((k : ℕ) → ¬ First Q k xs)
 find Q [] d = inr (λ k f. f)
-find {X} Q (x ∷ xs) d = go d.0 (find Q xs d.1)
+find {X} Q (x ∷ xs) d = let e = uncons (λ y. Dec (Q y)) x xs d in go e.0 (find Q xs e.1)
   where
     rest : ¬ Q x → ((k : ℕ) → ¬ First Q k xs) → (k : ℕ) → ¬ First Q k (x ∷ xs)
     rest n h zero f = f
@@ -38,8 +39,8 @@ find {X} Q (x ∷ xs) d = go d.0 (find Q xs d.1)
 clash : {X : Type 0} (Q H : X → Type 0) → ((x : X) → Q x → ¬ H x) → (k : ℕ) (xs : List X) → First Q k xs → ¬ All H xs
 clash Q H c k [] f h = f
 clash Q H c zero (x ∷ xs) f h = f
-clash Q H c (suc zero) (x ∷ xs) f h = c x f h.0
-clash Q H c (suc (suc k)) (x ∷ xs) f h = clash Q H c (suc k) xs f.1 h.1
+clash Q H c (suc zero) (x ∷ xs) f h = c x f (All-head H x xs h)
+clash Q H c (suc (suc k)) (x ∷ xs) f h = clash Q H c (suc k) xs f.1 (All-tail H x xs h)
 
 -- a broken entry leaves no reading
 pub broken_none : (P : List Picture) (E : List Entry) → Ordered P → (k : ℕ) → Broken P E k → (r : Reading) → ¬ Satisfies r P E
@@ -53,7 +54,7 @@ broken_none P E o k b r s = clash (Breaks P E) (Holds r P) no_both k E b s
 module _ (P : List Picture) (E : List Entry) (w : Proper P E) where
   each_values : (f : ℕ → ℕ) (xs : List ℕ) → All (λ i. Lowest P E i (f i)) xs → AllZip (Lowest P E) xs (map f xs)
   each_values f [] h = tt
-  each_values f (x ∷ xs) h = (h.0, each_values f xs h.1)
+  each_values f (x ∷ xs) h = let k = uncons (λ i. Lowest P E i (f i)) x xs h in (k.0, each_values f xs k.1)
 
   module _ (r : Reading) (l : Locked P E r) where
     lowest-to : (d p : ℕ) → On P p → p ≤ d → Lowest P E p (value_to r P d p)
@@ -63,7 +64,7 @@ module _ (P : List Picture) (E : List Entry) (w : Proper P E) where
           on,
           refl,
           each_values (value_to r P d) (inputs P p)
-              (All-weaker _ _ (λ i b. lowest-to d i (b.0, omega arith) (omega arith)) (inputs P p) (w.0 p on).1),
+              (All-weaker (λ i. (1 ≤ i) × (i < p)) (λ i. Lowest P E i (value_to r P d i)) (λ i b. lowest-to d i (b.0, omega arith) (omega arith)) (inputs P p) (w.0 p on).1),
         )
       where
         few : length (map (value_to r P d) (inputs P p)) ≤ 4
@@ -77,10 +78,16 @@ module _ (P : List Picture) (E : List Entry) (w : Proper P E) where
         lowest_joins P E a b (value r P a) (locked-lowest a oa) (subst (λ m. Lowest P E b m) (sym e) (locked-lowest b ob))
 
     holds : (F : List Entry) → All (Placed P) F → All (Keeps (Closure P E)) F → All (λ e. ¬ Breaks P E e) F → All (Holds r P) F
-    holds [] p k n = tt
+    holds [] p k n = All-nil _
     holds (same a b ∷ F) p k n =
-        (lowest_same P E a b _ _ k.0 (locked-lowest a p.0.0) (locked-lowest b p.0.1), holds F p.1 k.1 n.1)
-    holds (differ a b ∷ F) p k n = (λ e. n.0 (locked-joins a b p.0.0 p.0.1 e), holds F p.1 k.1 n.1)
+        let o = uncons (Placed P) (same a b) F p in
+        let c = uncons (Keeps (Closure P E)) (same a b) F k in
+        All-cons (Holds r P) (same a b) F (lowest_same P E a b _ _ c.0 (locked-lowest a o.0.0) (locked-lowest b o.0.1))
+        (holds F o.1 c.1 (All-tail (λ e. ¬ Breaks P E e) (same a b) F n))
+    holds (differ a b ∷ F) p k n =
+        let o = uncons (Placed P) (differ a b) F p in
+        let m = uncons (λ e. ¬ Breaks P E e) (differ a b) F n in
+        All-cons (Holds r P) (differ a b) F (λ e. m.0 (locked-joins a b o.0.0 o.0.1 e)) (holds F o.1 (All-tail (Keeps (Closure P E)) (differ a b) F k) m.1)
 
     pub locked-satisfies : ((k : ℕ) → ¬ Broken P E k) → Satisfies r P E
     locked-satisfies n = holds E w.1 (c_keeps P E w.1) (nowhere (Breaks P E) E n)
@@ -125,9 +132,12 @@ module _ (P : List Picture) (E : List Entry) (known : Known P E) where
       go (no n) = no (λ c. n (lowest_same P E a b _ _ c (known a oa).1 (known b ob).1))
 
   pub dec_joined : (F : List Entry) → All (Placed P) F → All (λ e. Dec (Breaks P E e)) F
-  dec_joined [] p = tt
-  dec_joined (same a b ∷ F) p = (no (λ h. h), dec_joined F p.1)
-  dec_joined (differ a b ∷ F) p = (dec_closure a b p.0.0 p.0.1, dec_joined F p.1)
+  dec_joined [] p = All-nil _
+  dec_joined (same a b ∷ F) p =
+      All-cons (λ e. Dec (Breaks P E e)) (same a b) F (no (λ h. h)) (dec_joined F (All-tail (Placed P) (same a b) F p))
+  dec_joined (differ a b ∷ F) p =
+      let o = uncons (Placed P) (differ a b) F p in
+      All-cons (λ e. Dec (Breaks P E e)) (differ a b) F (dec_closure a b o.0.0 o.0.1) (dec_joined F o.1)
 
   module _ (o : ℕ) (xs : List ℕ) where
     dec-bears : (p : ℕ) → On P p → Dec (Bears P E o xs p)

@@ -1,3 +1,4 @@
+pub mod Each
 pub mod Values
 pub mod Closed
 pub mod Laws

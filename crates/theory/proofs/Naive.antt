@@ -3,12 +3,13 @@ use Rattle.std.proofs.Common.{◌≡◌, ℕ, zero, suc, ◌+◌, ◌<◌, ◌�
 use native.Mathlib.Decide.{ℕ_discrete, dec_le}
 use lib.ListN.{length-map}
 use Rattle.std.specs.List.{AllZip}
-use Rattle.std.proofs.lemmas.List.Elements.{All-weaker}
+use Rattle.std.proofs.lemmas.List.Elements.{All-weaker, All-cons, All-nil, All-tail}
 use Rattle.std.proofs.lemmas.List.{get_or-map}
 use Rattle.std.proofs.lemmas.Bool.{eq-eqb, eqb-true, eqb-false, ne_eqb, le-leb, not-false, cases_order, and_cases, leb-true, and_parts, and_from, or_cases, both_ways, not-true, cases_Bool}
 use Rattle.theory.specs.Sheet.{Picture, Entry, same, differ, On, Ordered, Placed, Proper, picture, blank, operation, inputs, Keeps, Is, Twins, Congruence, Closure, Lowest}
 use Rattle.theory.specs.Statements.{Known}
 use Rattle.theory.proofs.Closed.{c_refl, c_sym, c_trans, c_twins, c_keeps}
+use Rattle.theory.proofs.Each.{uncons}
 
 abbrev pub label : List ℕ → ℕ → ℕ
 label L p = get_or (0 ∷ L) p 0
@@ -104,8 +105,8 @@ upto_at f (suc n) t p a b = go (ℕ_discrete p (suc n)) (λ l. upto_at f n (and_
     go (no h) k = k (less h)
 
 pub each_at : {X : Type 0} (f : X → Bool) (Q : X → Type 0) → ((x : X) → f x ≡ true → Q x) → (xs : List X) → each? f xs ≡ true → All Q xs
-each_at f Q k [] t = tt
-each_at f Q k (x ∷ xs) t = (k x (and_parts _ _ t).0, each_at f Q k xs (and_parts _ _ t).1)
+each_at f Q k [] t = All-nil _
+each_at f Q k (x ∷ xs) t = All-cons Q x xs (k x (and_parts _ _ t).0) (each_at f Q k xs (and_parts _ _ t).1)
 
 pub eqs_eq : (xs ys : List ℕ) → eqs xs ys ≡ true → xs ≡ ys
 eqs_eq [] [] t = refl
@@ -186,8 +187,8 @@ module _ (P : List Picture) (E : List Entry) where
 
   good_entries : (F : List Entry) (L : List ℕ) → All (Keeps (Closure P E)) F → Good L → Good (entries F L)
   good_entries [] L k g = g
-  good_entries (same a b ∷ F) L k g = good_entries F (merge L a b) k.1 (good_merge L a b g k.0)
-  good_entries (differ a b ∷ F) L k g = good_entries F L k.1 g
+  good_entries (same a b ∷ F) L k g = let h = uncons (Keeps (Closure P E)) (same a b) F k in good_entries F (merge L a b) h.1 (good_merge L a b g h.0)
+  good_entries (differ a b ∷ F) L k g = good_entries F L (All-tail (Keeps (Closure P E)) (differ a b) F k) g
 
   pub same_each : (L : List ℕ) → Good L → (xs ys : List ℕ) → All (On P) xs → All (On P) ys → eqs (map (label L) xs) (map (label L) ys) ≡ true → AllZip (Closure P E) xs ys
   same_each L g [] [] h k e = tt
@@ -195,11 +196,13 @@ module _ (P : List Picture) (E : List Entry) where
   same_each L g (x ∷ xs) [] h k e = both_ways false refl e
   same_each L g (x ∷ xs) (y ∷ ys) h k e =
       let t = and_parts (eqb (label L x) (label L y)) (eqs (map (label L) xs) (map (label L) ys)) e in
-      (g.1 x y h.0 k.0 (eqb-true _ _ t.0), same_each L g xs ys h.1 k.1 t.1)
+      let u = uncons (On P) x xs h in
+      let v = uncons (On P) y ys k in
+      (g.1 x y u.0 v.0 (eqb-true _ _ t.0), same_each L g xs ys u.1 v.1 t.1)
 
   module _ (w : Proper P E) where
     pub inputs_on : (p : ℕ) → On P p → All (On P) (inputs P p)
-    inputs_on p on = All-weaker _ _ (λ i h. (h.0, omega arith)) (inputs P p) (w.0 p on).1
+    inputs_on p on = All-weaker (λ i. (1 ≤ i) × (i < p)) (On P) (λ i h. (h.0, omega arith)) (inputs P p) (w.0 p on).1
 
     good-pair : (L : List ℕ) (a b : ℕ) → Good L → On P a → On P b → Good (pair P L a b)
     good-pair L a b g oa ob = go (twin? P L a b) refl

@@ -1,5 +1,5 @@
 -- A chain is one in at most one way, and so is what can stand on a sheet: a ghost field keeps them truncated, and a proof takes them out again. Assumes nothing.
-use Rattle.std.proofs.Common.{◌≡◌, ℕ, zero, suc, ◌≤◌, Bool, List, [], ◌∷◌, All, refl}
+use Rattle.std.proofs.Common.{◌≡◌, ℕ, zero, suc, ◌<◌, ◌≤◌, Bool, List, [], ◌∷◌, get_or, All, refl}
 use mathlib.Core.Logic.{∥∥₁_elim}
 use native.Mathlib.Bridge.{le_prop}
 use base.Stored.{coded_ℕ, coded_bool}
@@ -9,8 +9,7 @@ use Rattle.theory.specs.Sheet.{Picture, Entry, same, differ, On, Ordered, Placed
 use Rattle.theory.specs.Reasons.{Reason, by_entry, by_twins, left, right, JoinedBy, Number, Fits, Derivation}
 
 pub all_prop : {X : Type 0} (Q : X → Type 0) → ((x : X) → IsProp (Q x)) → (xs : List X) → IsProp (All Q xs)
-all_prop Q h [] a b = refl
-all_prop Q h (x ∷ xs) a b = λ i. (h x a.0 b.0 i, all_prop Q h xs a.1 b.1 i)
+all_prop Q h xs a b = λ i k d lt. h (get_or xs k d) (a k d lt) (b k d lt) i
 
 pub each_prop : {X : Type 0} (R : X → X → Type 0) → ((x y : X) → IsProp (R x y)) → (xs ys : List X) → IsProp (AllZip R xs ys)
 each_prop R h [] [] a b = refl
@@ -56,7 +55,7 @@ proper_prop P E a b =
     λ i. (
       (λ p o. (
         le_prop (a.0 p o).0 (b.0 p o).0 i,
-        all_prop _ (λ x u v j. (le_prop u.0 v.0 j, le_prop u.1 v.1 j)) (inputs P p) (a.0 p o).1 (b.0 p o).1 i,
+        all_prop (λ z. (1 ≤ z) × (z < p)) (λ x u v j. (le_prop u.0 v.0 j, le_prop u.1 v.1 j)) (inputs P p) (a.0 p o).1 (b.0 p o).1 i,
       )),
       all_prop (Placed P) (placed_prop P) E a.1 b.1 i,
     )

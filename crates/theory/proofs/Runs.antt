@@ -1,7 +1,7 @@
 -- The law over runs. Assumes nothing.
-use Rattle.std.proofs.Common.{◌≡◌, ℕ, ◌+◌, ◌-◌, ◌<◌, ◌≤◌, Bool, true, false, cond, ◌⊎◌, List, [], ◌∷◌, ◌++◌, length, All, sym, refl, ap, ◌∙◌, subst, inl, inr, ⊎_elim, arith, length-append}
+use Rattle.std.proofs.Common.{◌≡◌, ℕ, ◌+◌, ◌-◌, ◌<◌, ◌≤◌, Bool, true, false, cond, ◌⊎◌, List, [], ◌∷◌, ◌++◌, length, get_or, All, sym, refl, ap, ◌∙◌, subst, inl, inr, ⊎_elim, arith, length-append}
 use Rattle.std.specs.List.{AllZip}
-use Rattle.std.proofs.lemmas.List.Elements.{All-weaker, All-push}
+use Rattle.std.proofs.lemmas.List.Elements.{All-weaker, All-push, All-nil}
 use Rattle.std.proofs.lemmas.Bool.{true≢false}
 use Rattle.theory.specs.Sheet.{Picture, Entry, same, differ, Reading, On, Placed, Proper, value, operation, inputs, Satisfies, Breaks, Broken, Lowest, Applies, Locked}
 use Rattle.theory.specs.Calls.{Call, add, tell, must, why, lock, reopen, apply, Refusal, full, Answer, added, told, valued, refused, Content, empty, with_picture, with_entry, is_refused, refusal_steps, steps, Shown, Unless, Impossible, Taken, Answers, Alike, after}
@@ -12,6 +12,7 @@ use Rattle.theory.proofs.Laws.{dec_on, find, broken_none, dec_joined, locked, lo
 use Rattle.theory.proofs.Few.{few_law}
 use Rattle.theory.proofs.Answering.{answer_law}
 use Rattle.theory.proofs.Growing.{placed_more, ordered_more, holds_more}
+use Rattle.theory.proofs.Each.{uncons}
 
 -- what every run keeps
 abbrev Sound : ℕ → Content → Type 0
@@ -46,8 +47,7 @@ stable_on P p n = go (dec_on P p)
     go (no b) = absurd (n b)
 
 all_on : (P : List Picture) (ps : List ℕ) → ¬ ¬ All (On P) ps → All (On P) ps
-all_on P [] n = tt
-all_on P (p ∷ ps) n = (stable_on P p (λ k. n (λ a. k a.0)), all_on P ps (λ k. n (λ a. k a.1)))
+all_on P ps n k d lt = stable_on P (get_or ps k d) (λ m. n (λ a. m (a k d lt)))
 
 stable_placed : (P : List Picture) (e : Entry) → ¬ ¬ Placed P e → Placed P e
 stable_placed P (same a b) n = (stable_on P a (λ k. n (λ w. k w.0)), stable_on P b (λ k. n (λ w. k w.1)))
@@ -91,7 +91,7 @@ entry_sound cap s e cells r g h =
         by : (b : Bool) → Sound cap (cond b s (with_entry s e))
         by true = g
         by false =
-            let w : Proper s.pictures (s.entries ++ (e ∷ [])) = (g.0.0, All-push _ s.entries e g.0.1 (stable_placed s.pictures e on)) in
+            let w : Proper s.pictures (s.entries ++ (e ∷ [])) = (g.0.0, All-push (Placed s.pictures) s.entries e g.0.1 (stable_placed s.pictures e on)) in
             (w, some_reading s.pictures (s.entries ++ (e ∷ [])) w can, (g.2.0, g.2.1, omega (arith, room, length-append s.entries (e ∷ []))))
 
 step_sound : (cap : ℕ) (c : Call) (r : Answer) (s : Content) → Sound cap s → Answers cap s c r → Sound cap (after s c r)
@@ -109,7 +109,7 @@ run_sound cap [] s g h = g
 run_sound cap (c ∷ cs) s g h = run_sound cap cs (after s c.0 c.1) (step_sound cap c.0 c.1 s g h.1) h.2
 
 empty_sound : (cap : ℕ) → Sound cap empty
-empty_sound cap = (((λ p on. absurd (none p on)), tt), ((λ o xs. 0), tt), (omega arith, omega arith, omega arith))
+empty_sound cap = (((λ p on. absurd (none p on)), All-nil _), ((λ o xs. 0), All-nil _), (omega arith, omega arith, omega arith))
   where
     none : (p : ℕ) → On [] p → ⊥
     none p on = omega (arith, on.0, on.1)
@@ -150,7 +150,7 @@ few_steps cap s w c r h = go c h
     go (add o is) h = no_steps _ _ r _ _ refl (λ _. no_steps _ _ r _ _ refl (λ _. no_steps _ _ r _ _ refl (λ _ m. none (ap steps m.2)))) h
     go (tell e cells) h =
         no_steps _ _ r _ _ refl (λ _. no_steps _ _ r _ _ refl (λ on. no_steps _ _ r _ _ refl (λ _. ⊎_elim
-        (λ i. let k = i.1 in short (E ++ (e ∷ [])) (w.0, All-push _ E e w.1 (stable_placed P e on)) k.2 k.3 k.1 (ap steps k.7) k.6)
+        (λ i. let k = i.1 in short (E ++ (e ∷ [])) (w.0, All-push (Placed P) E e w.1 (stable_placed P e on)) k.2 k.3 k.1 (ap steps k.7) k.6)
         (λ t. taken e t.1)))) h
     go (must a b) h = no_steps _ _ r _ _ refl (λ _. ⊎_elim (λ t. none (ap steps t.1)) (λ t. none (ap steps t.1))) h
     go (why a b n) h =
@@ -309,7 +309,8 @@ other_run : (cap more : ℕ) (s : Content) (log : List (Call × Answer)) → All
 other_run cap more s [] n l h = tt
 other_run cap more s (c ∷ log) n l h =
     let t = after s c.0 c.1 in
-    (h.0, other_capacity cap more s c.0 c.1 n.0 (omega (arith, never_fewer t log, l)) h.1, other_run cap more t log n.1 l h.2)
+    let m = uncons (λ d. ¬ (d.1 ≡ refused full)) c log n in
+    (h.0, other_capacity cap more s c.0 c.1 m.0 (omega (arith, never_fewer t log, l)) h.1, other_run cap more t log m.1 l h.2)
 
 pub capacity_law : CapacityLaw
 capacity_law cap more log n l h = other_run cap more empty log n l h

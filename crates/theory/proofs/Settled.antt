@@ -2,6 +2,7 @@
 use Rattle.std.proofs.Common.{◌≡◌, ℕ, zero, suc, ◌+◌, ◌<◌, ◌≤◌, Bool, true, false, cond, not, ◌&&◌, ◌||◌, eqb, leb, ◌≢◌, ◌⊎◌, List, [], ◌∷◌, ◌++◌, map, length, get_or, All, sym, refl, ap, ◌∙◌, subst, inl, inr, ⊎_elim, arith}
 use lib.ListN.{length-map}
 use Rattle.std.proofs.lemmas.Bool.{eq-eqb, eqb-true, eqb-false, le-leb, not-false, cases_order, and_cases, and_parts, and_from, both_ways}
+use Rattle.std.proofs.lemmas.List.Elements.{All-head, All-tail}
 use Rattle.theory.specs.Sheet.{Picture, Entry, same, differ, On, Placed, Proper, operation, inputs, Closure, Lowest}
 use Rattle.theory.specs.Statements.{Known}
 use Rattle.theory.specs.Reasons.{Reason, by_entry, by_twins, left, right, JoinedBy, Number, Fits, Derivation, Explains, ExplainsLaw}
@@ -54,10 +55,10 @@ module _ (P : List Picture) (E : List Entry) (w : Proper P E) where
       each? (kept? L) F ≡ false → Gap J L
   gap_entry J L [] f n w t = absurd (both_ways true t refl)
   gap_entry J L (same a b ∷ F) f n w t =
-      ⊎_elim (λ e. (by_entry a b (f 1), w.0, n 1 a b (refl, refl), eqb-false _ _ e))
-      (λ e. gap_entry J L F (λ k. f (suc k)) (λ k l r h. n (suc k) l r (number_suc (same a b) F k l r h)) w.1 e)
+      ⊎_elim (λ e. (by_entry a b (f 1), All-head (Placed P) (same a b) F w, n 1 a b (refl, refl), eqb-false _ _ e))
+      (λ e. gap_entry J L F (λ k. f (suc k)) (λ k l r h. n (suc k) l r (number_suc (same a b) F k l r h)) (All-tail (Placed P) (same a b) F w) e)
       (and_cases (eqb (label L a) (label L b)) (each? (kept? L) F) t)
-  gap_entry J L (differ a b ∷ F) f n w t = gap_entry J L F (λ k. f (suc k)) (λ k l r h. n (suc k) l r (number_suc (differ a b) F k l r h)) w.1 t
+  gap_entry J L (differ a b ∷ F) f n w t = gap_entry J L F (λ k. f (suc k)) (λ k l r h. n (suc k) l r (number_suc (differ a b) F k l r h)) (All-tail (Placed P) (differ a b) F w) t
 
   gap : (J : List Reason) (L : List ℕ) → Grown P E J L → Tidy L → closed? P E L ≡ false → Gap J L
   gap J L g d t =

@@ -1,6 +1,7 @@
 -- A supported slice of a chain is a chain. Assumes nothing.
 use Rattle.std.proofs.Common.{◌≡◌, ℕ, zero, suc, ◌≤◌, Bool, true, false, List, [], ◌∷◌, ◌++◌, length, take, All, sym, refl, subst}
 use Rattle.std.specs.List.{AllZip}
+use Rattle.std.proofs.lemmas.List.Elements.{All-cons, All-head, All-tail}
 use Rattle.theory.specs.Sheet.{Picture, Entry, On, Is, Twins, inputs}
 use Rattle.theory.specs.Reasons.{Reason, by_entry, by_twins, left, right, Equivalence, JoinedBy, Number, Fits, Derivation}
 use Rattle.theory.specs.Slices.{kept, Propped, Supported, SliceLaw}
@@ -20,7 +21,7 @@ module _ (P : List Picture) where
   l_trans S a b c l m = (l.0, m.1, λ R g h. g.transitive a b c l.0 l.1 m.1 (l.2 R g h) (m.2 R g h))
 
   pub l_step : (S : List Reason) (s : Reason) → On P (left s) → On P (right s) → JoinedBy P (s ∷ S) (left s) (right s)
-  l_step S s a b = (a, b, λ R g h. h.0)
+  l_step S s a b = (a, b, λ R g h. All-head (λ t. Is R (left t) (right t)) s S h)
 
   pub l_more : (S T : List Reason) → Part S T → (a b : ℕ) → JoinedBy P S a b → JoinedBy P T a b
   l_more S T p a b l = (l.0, l.1, λ R g h. l.2 R g (p (λ s. Is R (left s) (right s)) h))
@@ -28,9 +29,9 @@ module _ (P : List Picture) where
   slice : (E : List Entry) (S V : List Reason) → Part V S → (T : List Reason) → Derivation P E S T → (bs : List Bool) → Supported P V bs T → Derivation P E V (kept bs T)
   slice E S V p T c [] u = tt
   slice E S V p [] c (b ∷ bs) u = tt
-  slice E S V p (s ∷ T) c (false ∷ bs) u = slice E (s ∷ S) V (λ Q h. p Q h.1) T c.2 bs u
+  slice E S V p (s ∷ T) c (false ∷ bs) u = slice E (s ∷ S) V (λ Q h. p Q (All-tail Q s S h)) T c.2 bs u
   slice E S V p (s ∷ T) c (true ∷ bs) u =
-      (fits s c.0 u.0, (λ l. c.1 (l_more V S p _ _ l)), slice E (s ∷ S) (s ∷ V) (λ Q h. (h.0, p Q h.1)) T c.2 bs u.1)
+      (fits s c.0 u.0, (λ l. c.1 (l_more V S p _ _ l)), slice E (s ∷ S) (s ∷ V) (λ Q h. All-cons Q s V (All-head Q s S h) (p Q (All-tail Q s S h))) T c.2 bs u.1)
     where
       fits : (s : Reason) → Fits P E S s → Propped P V s → Fits P E V s
       fits (by_entry l r k) f q = f

@@ -2,11 +2,12 @@
 use Rattle.std.proofs.Common.{◌≡◌, ℕ, zero, suc, ◌<◌, ◌≤◌, Bool, ◌≢◌, ◌⊎◌, List, [], ◌∷◌, ◌++◌, length, All, Contains, sym, refl, ap, ◌∙◌, subst, inl, inr, arith}
 use native.Mathlib.Decide.{ℕ_discrete}
 use Rattle.std.specs.List.{AllZip}
-use Rattle.std.proofs.lemmas.List.Elements.{All-contains, All-push}
+use Rattle.std.proofs.lemmas.List.Elements.{All-contains, All-push, All-cons, All-nil}
 use Rattle.theory.specs.Sheet.{Picture, Entry, differ, On, Placed, Proper, Is, Keeps, Congruence, Closure, Lowest, Counts, Classes, Bears, Applies, inputs}
 use Rattle.theory.specs.Laws.{ClosureLaw, LowestLaw, ClassesLaw, Valued, NoValueLaw, DifferLaw}
 use Rattle.theory.proofs.Closed.{c_refl, c_sym, c_trans, c_twins, c_keeps, lowest_same}
 use Rattle.theory.proofs.Settled.{known_all}
+use Rattle.theory.proofs.Each.{uncons}
 
 pub closure_law : ClosureLaw
 closure_law P E w =
@@ -48,10 +49,10 @@ classes_law P E w =
 
 -- the numbers that a picture bears are values
 row_values : (P : List Picture) (E : List Entry) (is xs : List ℕ) → AllZip (Lowest P E) is xs → All (Valued P E) xs
-row_values P E [] [] e = tt
+row_values P E [] [] e = All-nil _
 row_values P E [] (x ∷ xs) e = absurd e
-row_values P E (i ∷ is) [] e = tt
-row_values P E (i ∷ is) (x ∷ xs) e = ((i, e.0), row_values P E is xs e.1)
+row_values P E (i ∷ is) [] e = All-nil _
+row_values P E (i ∷ is) (x ∷ xs) e = All-cons (Valued P E) x xs (i, e.0) (row_values P E is xs e.1)
 
 pub no_value_law : NoValueLaw
 no_value_law P E = (
@@ -61,8 +62,8 @@ no_value_law P E = (
 
 -- ONE ENTRY MORE
 all_front : (Q : Entry → Type 0) (E : List Entry) (e : Entry) → All Q (E ++ (e ∷ [])) → All Q E
-all_front Q [] e a = tt
-all_front Q (x ∷ E) e a = (a.0, all_front Q E e a.1)
+all_front Q [] e a = All-nil _
+all_front Q (x ∷ E) e a = let h = uncons Q x (E ++ (e ∷ [])) a in All-cons Q x E h.0 (all_front Q E e h.1)
 
 pub closure_more : (P : List Picture) (E : List Entry) (e : Entry) (a b : ℕ) → Closure P E a b → Closure P (E ++ (e ∷ [])) a b
 closure_more P E e a b c = (

@@ -6,10 +6,11 @@ use Rattle.std.proofs.lemmas.List.Elements.{All-weaker}
 use Rattle.std.proofs.lemmas.Bool.{eq-eqb, eqb-true}
 use Rattle.theory.specs.Sheet.{Picture, Entry, same, differ, Reading, On, Ordered, value, value_to, operation, inputs, Holds, Satisfies, Keeps, Is, Twins, Congruence, Closure}
 use Rattle.theory.specs.Statements.{ValueLaw, ShortLaw}
+use Rattle.theory.proofs.Each.{uncons}
 
 pub map_same : (f g : ℕ → ℕ) (xs : List ℕ) → All (λ i. f i ≡ g i) xs → map f xs ≡ map g xs
 map_same f g [] h = refl
-map_same f g (x ∷ xs) h = ap₂ ◌∷◌ h.0 (map_same f g xs h.1)
+map_same f g (x ∷ xs) h = let k = uncons (λ i. f i ≡ g i) x xs h in ap₂ ◌∷◌ k.0 (map_same f g xs k.1)
 
 map_each : (f : ℕ → ℕ) (R : ℕ → ℕ → Type 0) (xs ys : List ℕ) → ((x y : ℕ) → R x y → f x ≡ f y) → AllZip R xs ys → map f xs ≡ map f ys
 map_each f R [] [] k h = refl
@@ -21,7 +22,7 @@ depth : (P : List Picture) → Ordered P → (r : Reading) (d e p : ℕ) → On 
 depth P o r zero e p on hd he = absurd (omega arith)
 depth P o r (suc d) zero p on hd he = absurd (omega arith)
 depth P o r (suc d) (suc e) p on hd he =
-    ap (r (operation P p)) (map_same (value_to r P d) (value_to r P e) (inputs P p) (All-weaker _ _
+    ap (r (operation P p)) (map_same (value_to r P d) (value_to r P e) (inputs P p) (All-weaker (λ i. (1 ≤ i) × (i < p)) (λ i. value_to r P d i ≡ value_to r P e i)
     (λ i h. depth P o r d e i (h.0, omega arith) (omega arith) (omega arith)) (inputs P p) (o p on).1))
 
 pub value_law : ValueLaw
@@ -37,7 +38,7 @@ short_to : (P : List Picture) → Ordered P → (r s : Reading) → ((o : ℕ) (
 short_to P o r s h zero p on = refl
 short_to P o r s h (suc d) p on =
     h (operation P p) (map (value_to r P d) (inputs P p)) (omega (arith, length-map (inputs P p) (value_to r P d), (o p on).0))
-    ∙ ap (s (operation P p)) (map_same (value_to r P d) (value_to s P d) (inputs P p) (All-weaker _ _
+    ∙ ap (s (operation P p)) (map_same (value_to r P d) (value_to s P d) (inputs P p) (All-weaker (λ i. (1 ≤ i) × (i < p)) (λ i. value_to r P d i ≡ value_to s P d i)
     (λ i k. short_to P o r s h d i (k.0, omega arith)) (inputs P p) (o p on).1))
 
 pub short_law : ShortLaw
