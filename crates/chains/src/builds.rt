@@ -23,7 +23,7 @@ fn has<R: Linked>(cells: &[R], cell: u16) -> bool
 
 // Gives a cell another next. Leaves everything where there is no such cell.
 fn link<R: Linked>(cells: &mut [R], cell: u16, next: u16)
-    ensures { cells.new ≡ with_next led cells.old cell next }
+    ensures { cells.new ≡ with_next R.led cells.old cell next }
 {
     if has(cells, cell) {
         cells[cell as usize - 1].lead(next);
@@ -33,8 +33,8 @@ fn link<R: Linked>(cells: &mut [R], cell: u16, next: u16)
 // Puts a cell in front of a chain, and answers the chain's new head.
 pub fn push<R: Linked>(cells: &mut [R], head: u16, cell: u16) -> Result<u16, ChainFault>
     ensures answer { result ≡ answered (is_cell (length cells.old) cell) cell }
-    ensures records { cells.new ≡ with_next led cells.old cell head }
-    ensures chain { (p : List ℕ) → Chain (map after cells.old) head p → Clear cell p → IfOk result (λ h. Chain (map after cells.new) h (cell ∷ p)) }
+    ensures records { cells.new ≡ with_next R.led cells.old cell head }
+    ensures chain { (p : List ℕ) → Chain (map R.after cells.old) head p → Clear cell p → IfOk result (λ h. Chain (map R.after cells.new) h (cell ∷ p)) }
 {
     if !has(cells, cell) {
         return Err(ChainFault::Outside);
@@ -51,8 +51,8 @@ pub fn append<R: Linked>(
     cell: u16,
 ) -> Result<u16, ChainFault>
     ensures answer { result ≡ append_answer (length cells.old) head last cell }
-    ensures records { cells.new ≡ (if is_ok result then appended led cells.old last cell else cells.old) }
-    ensures chain { (p : List ℕ) → Chain (map after cells.old) head p → last ≡ last_or 0 p → Clear cell p → IfOk result (λ h. Chain (map after cells.new) h (p ++ cell ∷ [])) }
+    ensures records { cells.new ≡ (if is_ok result then appended R.led cells.old last cell else cells.old) }
+    ensures chain { (p : List ℕ) → Chain (map R.after cells.old) head p → last ≡ last_or 0 p → Clear cell p → IfOk result (λ h. Chain (map R.after cells.new) h (p ++ cell ∷ [])) }
 {
     if !has(cells, cell) {
         return Err(ChainFault::Outside);
@@ -67,9 +67,9 @@ pub fn append<R: Linked>(
 
 // Takes a cell out of its chain, and answers the chain's new head. The cell itself is left as it is.
 pub fn unlink<R: Linked>(cells: &mut [R], head: u16, at: Found) -> Result<u16, ChainFault>
-    ensures answer { result ≡ unlink_answer (length cells.old) (map after cells.old) head at }
-    ensures records { cells.new ≡ (if is_ok result then unlinked after led cells.old at else cells.old) }
-    ensures chain { (front rest : List ℕ) → Chain (map after cells.old) head (front ++ at.cell ∷ rest) → at.before ≡ last_or 0 front → MatchResult result (λ h. Chain (map after cells.new) h (front ++ rest)) (λ _. ⊥) }
+    ensures answer { result ≡ unlink_answer (length cells.old) (map R.after cells.old) head at }
+    ensures records { cells.new ≡ (if is_ok result then unlinked R.after R.led cells.old at else cells.old) }
+    ensures chain { (front rest : List ℕ) → Chain (map R.after cells.old) head (front ++ at.cell ∷ rest) → at.before ≡ last_or 0 front → MatchResult result (λ h. Chain (map R.after cells.new) h (front ++ rest)) (λ _. ⊥) }
 {
     if !has(cells, at.cell) {
         return Err(ChainFault::Outside);
@@ -85,8 +85,8 @@ pub fn unlink<R: Linked>(cells: &mut [R], head: u16, at: Found) -> Result<u16, C
 // Chains the cells 1 to m in their order, and answers the chain's head.
 pub fn thread<R: Linked>(cells: &mut [R], m: u16) -> Result<u16, ChainFault>
     ensures answer { result ≡ answered (nat_le m (length cells.old)) (first_of m) }
-    ensures records { Threaded led m (if is_ok result then m else 0) cells.old cells.new }
-    ensures chain { IfOk result (λ h. Chain (map after cells.new) h (range_with_len 1 m)) }
+    ensures records { Threaded R.led m (if is_ok result then m else 0) cells.old cells.new }
+    ensures chain { IfOk result (λ h. Chain (map R.after cells.new) h (range_with_len 1 m)) }
 {
     if m as usize > cells.len() {
         return Err(ChainFault::Outside);

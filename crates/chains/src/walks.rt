@@ -31,8 +31,8 @@ pub enum Walked {
 
 // Walks from head on to the first record that passes the test, and looks at no more cells than there are.
 pub fn walk<R: Linked, T: Test<R>>(cells: &[R], head: u16, test: &T) -> Walked
-    ensures is { result ≡ walk_of (length cells.now) (map after cells.now) (map (passes test.now) cells.now) 0 head }
-    ensures chain { (p : List ℕ) → Chain (map after cells.now) head p → result ≡ walked (seek (map (passes test.now) cells.now) 0 p) }
+    ensures is { result ≡ walk_of (length cells.now) (map R.after cells.now) (map (T.passes test.now) cells.now) 0 head }
+    ensures chain { (p : List ℕ) → Chain (map R.after cells.now) head p → result ≡ walked (seek (map (T.passes test.now) cells.now) 0 p) }
 {
     let mut before = 0;
     let mut cell = head;

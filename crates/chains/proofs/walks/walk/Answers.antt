@@ -10,8 +10,8 @@ returns-then-cell-eq0 g c =
     let e = c.loop-turn.invariant.1 ∙ walk_end _ _ _ _ _ c.if-cell-eq0.true in
     record { is = sym e; chain = walk_whole _ _ _ _ _ (length-map c.args.cells.now g.R.Linked.after) e }
 
-pub overflow-cast-cell : goal.overflow-cast-cell
-overflow-cast-cell g c = search (rules, c.loop-turn.invariant.0)
+pub overflow_cast-cell : goal.overflow_cast-cell
+overflow_cast-cell g c = search (rules, c.loop-turn.invariant.0)
 
 pub returns-then-cell-cells : goal.returns-then-cell-cells
 returns-then-cell-cells g c =
@@ -41,8 +41,8 @@ loop-turn-preserved g c =
     let n : c.next-cell.result ≡ after_cell links c.loop-turn.cell = c.next-cell.ensures ∙ ap g.R.Linked.after c.index-cells-cell.is ∙ sym (get_or-map g.R.Linked.after xs i c.index-cells-cell.result 0 l) in (
       search rules,
       c.loop-turn.invariant.1
-          ∙ walk_on _ _ _ _ (length xs - c.loop-turn.-turn) (length xs - (c.loop-turn.-turn + 1)) (omega arith) c.if-cell-eq0.false (omega (arith, length-map xs g.R.Linked.after)) m
-          ∙ ap (walk_of (length xs - (c.loop-turn.-turn + 1)) links (map f xs) c.loop-turn.cell) (sym n),
+          ∙ walk_on _ _ _ _ (length xs - c.loop-turn._turn) (length xs - (c.loop-turn._turn + 1)) (omega arith) c.if-cell-eq0.false (omega (arith, length-map xs g.R.Linked.after)) m
+          ∙ ap (walk_of (length xs - (c.loop-turn._turn + 1)) links (map f xs) c.loop-turn.cell) (sym n),
     )
 
 pub returns-then-cell-eq0-2 : goal.returns-then-cell-eq0-2
