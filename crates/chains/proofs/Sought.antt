@@ -1,5 +1,5 @@
 -- What a search along a chain found; and that a chain is a proposition. Assumes nothing.
-use Rattle.std.proofs.Common.{◌≡◌, ℕ, ◌+◌, ◌-◌, Bool, true, false, List, [], ◌∷◌, ◌++◌, get_or, is_some, Some, None, Option, sym, ap, ◌∙◌, subst, inl, inr}
+use Rattle.std.proofs.Common.{◌≡◌, ℕ, ◌-◌, Bool, true, false, List, [], ◌∷◌, ◌++◌, get_or, is_some, Some, None, Option, sym, ap, ◌∙◌, subst, inl, inr}
 use native.Mathlib.Bridge.{le_prop}
 use base.Stored.{coded_ℕ}
 use denote.Struct.Props.{≡_prop}

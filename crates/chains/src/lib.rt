@@ -1,4 +1,5 @@
 // Chains of records in a lent slice, for every kind of record that has a next: cells are numbered from 1, and a next of 0 ends a chain.
+#![tactic(auto)]
 
 // what a record with a next is
 pub mod linked;

@@ -1,4 +1,5 @@
 // Signature indexes, which lead from a signature (an operation and a row of representatives) to a picture that bears it.
+#![tactic(auto)]
 
 // what an index is, and what its calls promise
 pub mod index;

@@ -10,7 +10,7 @@ pub fn find_or_enter<I: Index>(
     row: &[u16],
     picture: u16,
 ) -> Result<Option<u16>, IndexFault>
-    ensures { Met op row.now picture (leads index.old) (leads index.new) result }
+    ensures { Met op row.now picture (I.leads index.old) (I.leads index.new) result }
 {
     match index.query(op, row) {
         Some(q) => Ok(Some(q)),

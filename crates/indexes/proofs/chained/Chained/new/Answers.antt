@@ -5,11 +5,17 @@ use Rattle.indexes.specs.Buckets.{leads_of}
 use Rattle.indexes.specs.Spares.{none_sorted}
 use Rattle.indexes.proofs.chained.Chained.new.Goals as goal
 
-pub returns-in-err-cells : goal.returns-in-err-cells
-returns-in-err-cells c = IfOk-from_err c.from-residual-in-err-cells.result _ c.from-residual-in-err-cells.ensures.0
+pub returns-in_err-cells : goal.returns-in_err-cells
+returns-in_err-cells c = IfOk-from_err c.from_residual-in_err-cells.result _ c.from_residual-in_err-cells.ensures.0
 
-pub invariant-of-result : goal.invariant-of-result
-invariant-of-result c =
-    let m = c.in-ok-cells.ensures in
-    let h = c.in-ok-heads.ensures in
-    (h.len, (omega (arith, m.len), (m.capacity, (ap (λ x. apart (leads_of x)) m.items, ((λ b l. none_sorted _ _ 1025 b m.items (h.items-if-clones-equal (λ y e. e)) l), tt)))))
+pub invariant_of-result : goal.invariant_of-result
+invariant_of-result c =
+    let m = c.in_ok-cells.ensures in
+    let h = c.in_ok-heads.ensures in
+    record {
+      buckets = h.len;
+      table = omega (arith, m.len);
+      room = m.capacity;
+      once = ap (λ x. apart (leads_of x)) m.items;
+      sorted = λ b l. none_sorted _ _ 1025 b m.items (h.items_if_clones_equal (λ y e. e)) l;
+    }

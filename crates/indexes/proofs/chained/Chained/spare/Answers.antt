@@ -1,4 +1,4 @@
-use Rattle.std.proofs.Common.{◌≡◌, ◌-◌, ◌<◌, map, length, get_or, set, vec_items, sym, refl, ap, ◌∙◌, subst, arith, get_or-set_same}
+use Rattle.std.proofs.Common.{◌≡◌, ◌<◌, map, length, get_or, set, vec_items, sym, refl, ap, ◌∙◌, subst, arith, get_or-set_same}
 use Rattle.std.proofs.lemmas.List.{get_or_read}
 use Rattle.std.proofs.lemmas.Bool.{lt-ltb, le-ltb, leb-true, leb-false, true≢false}
 use Rattle.indexes.specs.Meaning.{apart}
@@ -34,29 +34,24 @@ returns-then-full c =
       free = λ b. absurd (true≢false (sym b));
     }
 
-pub invariant-of-self : goal.invariant-of-self
-invariant-of-self c =
+pub invariant_of-self : goal.invariant_of-self
+invariant_of-self c =
     let s = c.args.self.now in
     let xs = vec_items s.cells in
     let hs = vec_items s.heads in
     let n = c.spare.result in
     let hl : 0 < length hs = omega (arith, s.buckets) in
     let hd : c.index.result.now ≡ get_or hs 0 0 = get_or_read hs 0 c.index.result.now hl c.index.ensures 0 in
-    let e = c.push-reserved.ensures.items in
+    let e = c.push_reserved.ensures.items in
     let few = leb-false 1024 _ (sym c.full.ensures ∙ c.if-full.false) in
-    let all = grown xs hs n c.len.result c.spare.ensures.used c.spare.ensures.next (omega (arith, s.buckets)) (sym hd ∙ c.if-index-ne0.false) (omega arith) s.sorted in (
-      s.buckets,
-      (
-        omega (arith, few),
-        (
-          omega arith,
-          (
-            ap (λ x. apart (leads_of x)) e ∙ ap apart (leads_grown xs n c.spare.ensures.used) ∙ s.once,
-            ((λ b l. subst (λ x. SortedOut (map link_of x) (map bucket_of x) (get_or (set hs 0 c.len.result) b 0) b) (sym e) (all b l)), tt),
-          ),
-        ),
-      ),
-    )
+    let all = grown xs hs n c.len.result c.spare.ensures.used c.spare.ensures.next (omega (arith, s.buckets)) (sym hd ∙ c.if-index-ne0.false) (omega arith) s.sorted in
+    record {
+      buckets = s.buckets;
+      table = omega (arith, few);
+      room = omega arith;
+      once = ap (λ x. apart (leads_of x)) e ∙ ap apart (leads_grown xs n c.spare.ensures.used) ∙ s.once;
+      sorted = λ b l. subst (λ x. SortedOut (map link_of x) (map bucket_of x) (get_or (set hs 0 c.len.result) b 0) b) (sym e) (all b l);
+    }
 
 pub returns : goal.returns
 returns c =
@@ -66,6 +61,6 @@ returns c =
     let hl : 0 < length hs = omega (arith, s.buckets) in
     record {
       answer = sym (lt-ltb (length (leads_of xs)) 1024 (omega (arith, leads_few xs, leb-false 1024 _ (sym c.full.ensures ∙ c.if-full.false))));
-      same = ap leads_of c.push-reserved.ensures.items ∙ leads_grown xs c.spare.result c.spare.ensures.used;
-      free = λ _ z. omega (arith, sym (get_or-set_same hs 0 c.len.result 0 hl) ∙ z, c.len.ensures, c.push-reserved.ensures.len);
+      same = ap leads_of c.push_reserved.ensures.items ∙ leads_grown xs c.spare.result c.spare.ensures.used;
+      free = λ _ z. omega (arith, sym (get_or-set_same hs 0 c.len.result 0 hl) ∙ z, c.len.ensures, c.push_reserved.ensures.len);
     }

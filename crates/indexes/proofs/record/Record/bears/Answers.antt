@@ -11,5 +11,5 @@ pub returns-then-self-op : goal.returns-then-self-op
 returns-then-self-op c =
     let s = c.args.self.now in
     let w = c.args.row.now in
-    let m : c.eq.result ≡ same_row c.as-slice.result.now w = same_from_decides _ _ (slice_eq-Decides Decides-eqb _ _ _ c.eq.ensures) (row_decides _ _) in
-    m ∙ ap (λ v. same_row v w) c.as-slice.ensures.value ∙ ap (λ b. b && same_row (cells_of s.row) w) (sym (eq-eqb s.op c.args.op c.if-self-op.true))
+    let m : c.eq.result ≡ same_row c.as_slice.result.now w = same_from_decides _ _ (slice_eq-Decides Decides-eqb c.as_slice.result.now w c.eq.result c.eq.ensures) (row_decides c.as_slice.result.now w) in
+    m ∙ ap (λ v. same_row v w) c.as_slice.ensures.value ∙ ap (λ b. b && same_row (cells_of s.row) w) (sym (eq-eqb s.op c.args.op c.if-self-op.true))

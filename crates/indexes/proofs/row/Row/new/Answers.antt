@@ -4,5 +4,5 @@ use Rattle.indexes.proofs.row.Row.new.Goals as goal
 
 pub returns : goal.returns
 returns c =
-    let e = c.copy-from-slice.ensures.after in
+    let e = c.copy_from_slice.ensures.after in
     (take_at _ _ (length c.args.numbers.now) (ap length e) ∙ e, omega arith)

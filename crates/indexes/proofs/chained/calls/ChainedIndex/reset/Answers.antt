@@ -6,12 +6,18 @@ use Rattle.indexes.specs.Buckets.{leads_of}
 use Rattle.indexes.specs.Spares.{none_sorted}
 use Rattle.indexes.proofs.chained.calls.ChainedIndex.reset.Goals as goal
 
-pub invariant-of-self : goal.invariant-of-self
-invariant-of-self c =
+pub invariant_of-self : goal.invariant_of-self
+invariant_of-self c =
     let s = c.args.self.now in
     let ws = c.fill.new.self in
     let e = c.clear.ensures.items in
-    let n : length c.as-mut-slice.result.now ≡ 1025 = omega (arith, s.buckets, c.as-mut-slice.ensures.len) in
+    let n : length c.as_mut_slice.result.now ≡ 1025 = omega (arith, s.buckets, c.as_mut_slice.ensures.len) in
     let h : vec_items (with_items s.heads ws) ≡ replicate 1025 0 =
     with_items_is s.heads ws (omega (arith, c.fill.ensures.len)) ∙ c.fill.ensures.after (λ y q. q) ∙ ap (λ k. replicate k 0) n in
-    (s.buckets, (omega (arith, c.clear.ensures.len), (omega (arith, c.clear.ensures.capacity, s.room), (ap (λ x. apart (leads_of x)) e, ((λ b l. none_sorted _ _ 1025 b e h l), tt)))))
+    record {
+      buckets = s.buckets;
+      table = omega (arith, c.clear.ensures.len);
+      room = omega (arith, c.clear.ensures.capacity, s.room);
+      once = ap (λ x. apart (leads_of x)) e;
+      sorted = λ b l. none_sorted _ _ 1025 b e h l;
+    }
