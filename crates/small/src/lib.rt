@@ -1,4 +1,6 @@
 // A class keeper for sixteen pictures that lies in one array: an example of a keeper of your own.
+#![tactic(auto)]
+
 ghost use Rattle.std.specs.Prelude.{◌≡◌, ℕ, ◌≤◌, take};
 ghost use Rattle.keepers.specs.Meaning.{Settled, Found};
 ghost use Rattle.std.proofs.Common.{rules, arith};

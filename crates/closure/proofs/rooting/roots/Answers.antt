@@ -10,15 +10,15 @@ use Rattle.closure.proofs.rooting.roots.Goals as goal
 pub root-requires : goal.root-requires
 root-requires g c =
     let rs = g.K.Keeper.reps c.args.k.now in
-    let xs = c.as-slice-inputs.result.now in
-    let a : All (Within rs) xs = subst (All (Within rs)) (sym c.as-slice-inputs.ensures.value) c.requires in
+    let xs = c.as_slice-inputs.result.now in
+    let a : All (Within rs) xs = subst (All (Within rs)) (sym c.as_slice-inputs.ensures.value) c.requires in
     let w = All-get_or (Within rs) xs c.loop-i.i 0 (omega arith) a in
     subst (λ (r : List ℕ). Within r (get_or xs c.loop-i.i 0)) (sym c.loop-i.invariant.0) w
 
 pub loop-i-preserved : goal.loop-i-preserved
 loop-i-preserved g c =
     let rs = g.K.Keeper.reps c.args.k.now in
-    let xs = c.as-slice-inputs.result.now in
+    let xs = c.as_slice-inputs.result.now in
     let same = c.loop-i.invariant.0 in (
       c.root.ensures.same ∙ same,
       simp length-set c.loop-i.invariant.1,
@@ -29,13 +29,13 @@ loop-i-preserved g c =
 pub returns : goal.returns
 returns g c =
     let rs = g.K.Keeper.reps c.args.k.now in
-    let xs = c.as-slice-inputs.result.now in
+    let xs = c.as_slice-inputs.result.now in
     let n : ℕ = length xs in
     let at : c.loop-i.i ≡ n = omega arith in
     let part = subst (λ (j : ℕ). take j c.loop-i.cells ≡ map (rep rs) (take j xs)) at c.loop-i.invariant.2 in
     record {
       answer = c.in-Some.ensures.0
           ∙ (ap (λ (j : ℕ). take j c.loop-i.cells) (sub-zero n)
-          ∙ (part ∙ (ap (map (rep rs)) (take_all n xs (omega arith)) ∙ ap (map (rep rs)) c.as-slice-inputs.ensures.value)));
+          ∙ (part ∙ (ap (map (rep rs)) (take_all n xs (omega arith)) ∙ ap (map (rep rs)) c.as_slice-inputs.ensures.value)));
       same = c.loop-i.invariant.0;
     }

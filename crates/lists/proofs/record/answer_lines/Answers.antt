@@ -6,10 +6,10 @@ use Rattle.lists.proofs.record.answer_lines.Goals as goal
 pub loop-rest-preserved : goal.loop-rest-preserved
 loop-rest-preserved g c =
     let r = c.loop-rest in (
-      c.answer-line-reply.ensures.whole,
+      c.answer_line-reply.ensures.whole,
       turn Did c.args.sheet.now r.sheet c.args.text.now r.rest.now (string_bytes r.out) r.invariant.1
-          c.cut-line.result.0.now c.cut-line.result.1.now c.answer-line-reply.result c.answer-line-reply.new.sheet (string_bytes c.say.new.out)
-          c.cut-line.ensures.lines c.answer-line-reply.ensures.replies c.in-ok-say.ensures,
+          c.cut_line.result.0.now c.cut_line.result.1.now c.answer_line-reply.result c.answer_line-reply.new.sheet (string_bytes c.say.new.out)
+          c.cut_line.ensures.lines c.answer_line-reply.ensures.replies c.in_ok-say.ensures,
     )
 
 pub returns : goal.returns

@@ -13,7 +13,7 @@ pub returns : goal.returns
 returns c =
     let js = c.args.joins.now in
     let m : ℕ = length js in
-    let mid = c.write-steps.new.table in
+    let mid = c.write_steps.new.table in
     let end = c.thread.new.cells in
     let is : c.thread.result ≡ Ok (first_of m) =
     c.thread.ensures.answer ∙ ap (λ (b : Bool). answered b (first_of m)) (le-leb m (length mid) (omega arith)) in
@@ -21,4 +21,4 @@ returns c =
     subst (λ (r : Result ℕ ChainFault). IfOk r (λ h. Chain (map (λ s. s.next) end) h (range_with_len 1 m))) is c.thread.ensures.chain in
     let all : Threaded led m m mid end =
     subst (λ (r : Result ℕ ChainFault). Threaded led m (cond (is_ok r) m 0) mid end) is c.thread.ensures.records in
-    chained js c.args.table.now mid end (omega arith) (omega arith) (omega arith) c.write-steps.ensures all path
+    chained js c.args.table.now mid end (omega arith) (omega arith) (omega arith) c.write_steps.ensures all path

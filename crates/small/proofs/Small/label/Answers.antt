@@ -1,5 +1,5 @@
-use Rattle.std.proofs.Common.{◌≡◌, ℕ, zero, suc, ◌-◌, ◌<◌, ◌≤◌, List, length, get_or, take, sym, ap, ◌∙◌, sub-one, arith, length-take, get_or-take}
-use Rattle.keepers.specs.Meaning.{rep, Within}
+use Rattle.std.proofs.Common.{◌≡◌, ℕ, zero, suc, ◌-◌, ◌<◌, ◌≤◌, List, get_or, take, sub-one, arith, length-take, get_or-take}
+use Rattle.keepers.specs.Meaning.{rep}
 use Rattle.small.proofs.Small.label.Goals as goal
 
 -- the representative of a picture stands in its cell

@@ -1,4 +1,4 @@
-use Rattle.std.proofs.Common.{◌≡◌, ℕ, ◌+◌, ◌<◌, ◌≤◌, List, [], ◌∷◌, ◌++◌, length, take, set, sym, ap, ◌∙◌, subst, arith, length-take}
+use Rattle.std.proofs.Common.{◌≡◌, ℕ, ◌+◌, ◌<◌, ◌≤◌, [], ◌∷◌, ◌++◌, length, take, set, sym, ap, ◌∙◌, subst, arith, length-take}
 use Rattle.std.proofs.lemmas.List.{take_more_set}
 use Rattle.keepers.specs.Meaning.{Settled}
 use Rattle.keepers.specs.Reps.{settled_push}
@@ -12,10 +12,13 @@ grown k l = take_more_set k.labels k.n (k.n + 1) l
 count : (k : Small) → k.n ≤ length k.labels → length (take k.n k.labels) ≡ k.n
 count k l = simp length-take (omega arith)
 
-pub invariant-of-self : goal.invariant-of-self
-invariant-of-self c =
+pub invariant_of-self : goal.invariant_of-self
+invariant_of-self c =
     let k = c.args.self.now in
-    (omega arith, (subst Settled (sym (grown k (omega arith))) (settled_push (take k.n k.labels) (k.n + 1) (ap (λ (m : ℕ). m + 1) (sym (count k (omega arith)))) k.settled), tt))
+    record {
+      few = omega arith;
+      settled = subst Settled (sym (grown k (omega arith))) (settled_push (take k.n k.labels) (k.n + 1) (ap (λ (m : ℕ). m + 1) (sym (count k (omega arith)))) k.settled);
+    }
 
 pub returns : goal.returns
 returns c =

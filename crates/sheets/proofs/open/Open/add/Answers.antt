@@ -21,14 +21,14 @@ settle-requires g c =
     let rs' = g.K.Keeper.reps c.grow.new.self in
     let p : Picture = record { op = c.args.op; inputs = c.in-Some.row } in
     let grown : rs' ≡ rs ++ c.in-Ok.number ∷ [] = c.in-Ok.ensures.2 in
-    let none : any_absent n c.args.inputs.now ≡ false = ap (λ (k : ℕ). any_absent k c.args.inputs.now) (sym c.len-n.ensures) ∙ (sym c.any-missing.ensures ∙ c.if-any-missing.false) in
+    let none : any_absent n c.args.inputs.now ≡ false = ap (λ (k : ℕ). any_absent k c.args.inputs.now) (sym c.len-n.ensures) ∙ (sym c.any_missing.ensures ∙ c.if-any_missing.false) in
     let len : n ≡ length P = s.pictures.ok.0 in
     let on : All (Upto (length P)) c.args.inputs.now = subst (λ (k : ℕ). All (Upto k) c.args.inputs.now) len (all_present n c.args.inputs.now none) in
     let fed : Fed (length P) p = subst (All (Upto (length P))) (sym c.in-Some.ensures.0) on in
-    let pushed : vec_items c.push-reserved.new.self ≡ P ++ p ∷ [] = c.push-reserved.ensures.items in
+    let pushed : vec_items c.push_reserved.new.self ≡ P ++ p ∷ [] = c.push_reserved.ensures.items in
     let few : length P < 1024 = omega (arith, len) in
     record {
-      ready = grown_ready rs rs' P _ p c.in-Ok.number c.requires.ready few grown (c.as-slice.ensures.value ∙ pushed) fed;
+      ready = grown_ready rs rs' P _ p c.in-Ok.number c.requires.ready few grown (c.as_slice.ensures.value ∙ pushed) fed;
       sized = omega arith;
       inward = grown_inward n _ _ (omega arith) c.requires.inward;
       booked = grown_booked rs rs' c.in-Ok.number _ grown c.requires.booked;
@@ -51,22 +51,22 @@ returns-in-Ok g c =
     let rs'' = g.K.Keeper.reps c.settle.new.k in
     let p : Picture = record { op = c.args.op; inputs = c.in-Some.row } in
     let grown = c.in-Ok.ensures in
-    let none : any_absent n c.args.inputs.now ≡ false = ap (λ (k : ℕ). any_absent k c.args.inputs.now) (sym c.len-n.ensures) ∙ (sym c.any-missing.ensures ∙ c.if-any-missing.false) in
+    let none : any_absent n c.args.inputs.now ≡ false = ap (λ (k : ℕ). any_absent k c.args.inputs.now) (sym c.len-n.ensures) ∙ (sym c.any_missing.ensures ∙ c.if-any_missing.false) in
     let len : n ≡ length P = s.pictures.ok.0 in
     let on : All (Upto (length P)) c.args.inputs.now = subst (λ (k : ℕ). All (Upto k) c.args.inputs.now) len (all_present n c.args.inputs.now none) in
     let fed : Fed (length P) p = subst (All (Upto (length P))) (sym c.in-Some.ensures.0) on in
-    let pushed : vec_items c.push-reserved.new.self ≡ P ++ p ∷ [] = c.push-reserved.ensures.items in
+    let pushed : vec_items c.push_reserved.new.self ≡ P ++ p ∷ [] = c.push_reserved.ensures.items in
     let few : length P < 1024 = omega (arith, len) in
-    let ready = grown_ready rs rs' P (vec_items c.push-reserved.new.self) p c.in-Ok.number c.requires.ready few grown.2 pushed fed in
+    let ready = grown_ready rs rs' P (vec_items c.push_reserved.new.self) p c.in-Ok.number c.requires.ready few grown.2 pushed fed in
     let prog = c.settle.ensures.progress in
     let same = c.lowest-lowest.ensures.same in
     let other : n ≢ g.K.Keeper.limit = λ e. grown.0 (c.requires.ready.counted ∙ (sym len ∙ e)) in
     let full : n < g.K.Keeper.limit = omega (arith, c.requires.room) in
     record {
       whole = record {
-        ready = subst (λ (xs : List ℕ). Ready xs (vec_items c.push-reserved.new.self)) (sym same) (progress_ready _ rs' rs'' _ _ prog ready);
-        room = omega (arith, full, c.push-reserved.ensures.len);
-        inward = subst (λ (k : ℕ). Inward k (held (g.I.Index.leads c.settle.new.index))) c.as-slice.ensures.len c.settle.ensures.inward;
+        ready = subst (λ (xs : List ℕ). Ready xs (vec_items c.push_reserved.new.self)) (sym same) (progress_ready _ rs' rs'' _ _ prog ready);
+        room = omega (arith, full, c.push_reserved.ensures.len);
+        inward = subst (λ (k : ℕ). Inward k (held (g.I.Index.leads c.settle.new.index))) c.as_slice.ensures.len c.settle.ensures.inward;
         booked = subst (λ (xs : List ℕ). Booked xs (vec_len c.settle.new.journal)) (sym same) (progress_booked rs' rs'' _ _ prog (grown_booked rs rs' c.in-Ok.number _ grown.2 c.requires.booked));
         placed = placed_more n _ (vec_items s.entries) (omega arith) c.requires.placed;
       };

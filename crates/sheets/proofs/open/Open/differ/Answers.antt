@@ -15,7 +15,7 @@ returns g c =
     let t : ℕ = vec_len s.entries in
     let cells : ℕ = length c.args.table.now in
     let same = c.together.ensures.same in
-    let pass = c.in-ok-entry.ensures in
+    let pass = c.in_ok-entry.ensures in
     let passed : Passed cells n t a b = subst (λ (k : ℕ). Passed cells k t a b) c.len-n.ensures (subst (λ (k : ℕ). Passed cells c.len-n.result k a b) c.len-taken.ensures pass.2) in
     record {
       whole = record {
@@ -23,12 +23,12 @@ returns g c =
         room = c.requires.room;
         inward = c.requires.inward;
         booked = subst (λ (rs : List ℕ). Booked rs (vec_len s.journal)) (sym same) c.requires.booked;
-        placed = subst (All (Placed n)) (sym c.push-reserved.ensures.items) (All-push (Placed n) (vec_items s.entries) (Differ a b) c.requires.placed (passed.left_on, passed.right_on));
+        placed = subst (All (Placed n)) (sym c.push_reserved.ensures.items) (All-push (Placed n) (vec_items s.entries) (Differ a b) c.requires.placed (passed.left_on, passed.right_on));
       };
       told = (
         ap₂ (λ (k j : ℕ). entry_check cells k j a b) (sym c.len-n.ensures) (sym c.len-taken.ensures) ∙ pass.0,
         pass.1 ∙ ap (λ (k : ℕ). k + 1) (c.len-taken.ensures ∙ s.entries.ok.0),
-        c.push-reserved.ensures.items,
+        c.push_reserved.ensures.items,
       );
       pictures = refl;
       table = refl;

@@ -13,10 +13,10 @@ use Rattle.sheets.proofs.open.Open.same.Goals as goal
 pub tie-requires : goal.tie-requires
 tie-requires g c =
     let s = c.args.self.now in
-    let len = c.as-slice.ensures.len in
-    let passed = subst (λ (k : ℕ). Passed (length c.args.table.now) k c.len-taken.result c.args.a c.args.b) c.len-n.ensures c.in-ok-entry.ensures.2 in
+    let len = c.as_slice.ensures.len in
+    let passed = subst (λ (k : ℕ). Passed (length c.args.table.now) k c.len-taken.result c.args.a c.args.b) c.len-n.ensures c.in_ok-entry.ensures.2 in
     record {
-      ready = subst (Ready (g.K.Keeper.reps s.keeper)) (sym c.as-slice.ensures.value) c.requires.ready;
+      ready = subst (Ready (g.K.Keeper.reps s.keeper)) (sym c.as_slice.ensures.value) c.requires.ready;
       on = ((passed.left_on.0, omega (arith, passed.left_on.1, len)), (passed.right_on.0, omega (arith, passed.right_on.1, len)));
       sized = omega arith;
       inward = subst (λ (k : ℕ). Inward k (held (g.I.Index.leads s.index))) (sym len) c.requires.inward;
@@ -28,21 +28,21 @@ pub withdraw-steps-requires : goal.withdraw-steps-requires
 withdraw-steps-requires g c =
     let s = c.args.self.now in
     let n : ℕ = vec_len s.pictures in
-    let same = c.first-broken.ensures.same in
+    let same = c.first_broken.ensures.same in
     let prog = c.tie.ensures.progress in
     let e : Entry = c.index-broken.result.now in
-    let found : c.in-Some.i < length (vec_items s.entries) = omega (arith, c.in-Some.ensures.answer.0, ap length c.as-slice-2.ensures.value) in
+    let found : c.in-Some.i < length (vec_items s.entries) = omega (arith, c.in-Some.ensures.answer.0, ap length c.as_slice-2.ensures.value) in
     let placed : Placed n e = subst (Placed n) (sym c.index-broken.ensures) (All-get_or (Placed n) (vec_items s.entries) c.in-Some.i e found c.requires.placed) in
     record {
       whole = record {
         ready = subst (λ (rs : List ℕ). Ready rs (vec_items s.pictures)) (sym same) (progress_ready _ _ _ _ _ prog c.requires.ready);
         room = c.requires.room;
-        inward = subst (λ (k : ℕ). Inward k (held (g.I.Index.leads c.tie.new.index))) c.as-slice.ensures.len c.tie.ensures.inward;
+        inward = subst (λ (k : ℕ). Inward k (held (g.I.Index.leads c.tie.new.index))) c.as_slice.ensures.len c.tie.ensures.inward;
         booked = subst (λ (rs : List ℕ). Booked rs (vec_len c.tie.new.journal)) (sym same) (progress_booked _ _ _ _ prog c.requires.booked);
         placed = c.requires.placed;
       };
       on = (subst (Upto n) (sym c.left.ensures) placed.0, subst (Upto n) (sym c.right.ensures) placed.1);
-      cells = c.in-ok-entry.ensures.2.enough;
+      cells = c.in_ok-entry.ensures.2.enough;
     }
 
 pub returns-in-None : goal.returns-in-None
@@ -53,22 +53,22 @@ returns-in-None g c =
     let n : ℕ = vec_len s.pictures in
     let t : ℕ = vec_len s.entries in
     let cells : ℕ = length c.args.table.now in
-    let same = c.first-broken.ensures.same in
+    let same = c.first_broken.ensures.same in
     let prog = c.tie.ensures.progress in
-    let pass = c.in-ok-entry.ensures in
+    let pass = c.in_ok-entry.ensures in
     let passed : Passed cells n t a b = subst (λ (k : ℕ). Passed cells k t a b) c.len-n.ensures (subst (λ (k : ℕ). Passed cells c.len-n.result k a b) c.len-taken.ensures pass.2) in
     record {
       whole = record {
         ready = subst (λ (rs : List ℕ). Ready rs (vec_items s.pictures)) (sym same) (progress_ready _ _ _ _ _ prog c.requires.ready);
         room = c.requires.room;
-        inward = subst (λ (k : ℕ). Inward k (held (g.I.Index.leads c.tie.new.index))) c.as-slice.ensures.len c.tie.ensures.inward;
+        inward = subst (λ (k : ℕ). Inward k (held (g.I.Index.leads c.tie.new.index))) c.as_slice.ensures.len c.tie.ensures.inward;
         booked = subst (λ (rs : List ℕ). Booked rs (vec_len c.tie.new.journal)) (sym same) (progress_booked _ _ _ _ prog c.requires.booked);
-        placed = subst (All (Placed n)) (sym c.push-reserved.ensures.items) (All-push (Placed n) (vec_items s.entries) (Same a b) c.requires.placed (passed.left_on, passed.right_on));
+        placed = subst (All (Placed n)) (sym c.push_reserved.ensures.items) (All-push (Placed n) (vec_items s.entries) (Same a b) c.requires.placed (passed.left_on, passed.right_on));
       };
       told = (
         ap₂ (λ (k j : ℕ). entry_check cells k j a b) (sym c.len-n.ensures) (sym c.len-taken.ensures) ∙ pass.0,
         pass.1 ∙ ap (λ (k : ℕ). k + 1) (c.len-taken.ensures ∙ s.entries.ok.0),
-        c.push-reserved.ensures.items,
+        c.push_reserved.ensures.items,
       );
       pictures = refl;
       joins = omega (arith, ap class_count same, prog.balance, prog.longer, c.len.ensures, c.len-joined.ensures);

@@ -9,13 +9,13 @@ returns g c =
     let s = c.args.self.now in
     record {
       whole = record {
-        ready = subst (Ready (g.K.Keeper.reps c.rebuild.new.k)) c.as-slice-3.ensures.value c.rebuild.ensures.ready;
+        ready = subst (Ready (g.K.Keeper.reps c.rebuild.new.k)) c.as_slice-3.ensures.value c.rebuild.ensures.ready;
         room = c.requires.whole.room;
-        inward = subst (λ (k : ℕ). Inward k (held (g.I.Index.leads c.rebuild.new.index))) c.as-slice-3.ensures.len c.rebuild.ensures.inward;
+        inward = subst (λ (k : ℕ). Inward k (held (g.I.Index.leads c.rebuild.new.index))) c.as_slice-3.ensures.len c.rebuild.ensures.inward;
         booked = c.rebuild.ensures.booked;
         placed = c.requires.whole.placed;
       };
       pictures = refl;
       entries = refl;
-      rest = λ k d h. c.write-chain.ensures.rest k d (simp length-take (omega (arith, h)));
+      rest = λ k d h. c.write_chain.ensures.rest k d (simp length-take (omega (arith, h)));
     }

@@ -8,14 +8,14 @@ use Rattle.sheets.specs.Broken.{broken, Unbroken}
 use Rattle.sheets.specs.Entries.{Placed}
 use Rattle.sheets.proofs.open.telling.first_broken.Goals as goal
 
-pub is-broken-requires : goal.is-broken-requires
-is-broken-requires g c =
+pub is_broken-requires : goal.is_broken-requires
+is_broken-requires g c =
     let n = ap length c.loop-i.invariant.0 in
     let E = c.args.entries.now in
     subst (λ (k : ℕ). Placed k (get_or E c.loop-i.i (Same 0 0))) (sym n) (All-get_or (Placed (length (g.K.Keeper.reps c.args.k.now))) E c.loop-i.i (Same 0 0) (omega arith) c.requires)
 
-pub returns-then-is-broken : goal.returns-then-is-broken
-returns-then-is-broken g c =
+pub returns-then-is_broken : goal.returns-then-is_broken
+returns-then-is_broken g c =
     let same = c.loop-i.invariant.0 in
     let E = c.args.entries.now in
     let i : ℕ = c.loop-i.i in
@@ -23,10 +23,10 @@ returns-then-is-broken g c =
       answer = (
         omega arith,
         (λ d. ap (broken (g.K.Keeper.reps c.args.k.now)) (get_or_default E i d (Same 0 0) (omega arith))
-            ∙ (ap (λ (rs : List ℕ). broken rs (get_or E i (Same 0 0))) (sym same) ∙ (sym c.is-broken.ensures.answer ∙ c.if-is-broken.true))),
+            ∙ (ap (λ (rs : List ℕ). broken rs (get_or E i (Same 0 0))) (sym same) ∙ (sym c.is_broken.ensures.answer ∙ c.if-is_broken.true))),
         c.loop-i.invariant.1,
       );
-      same = c.is-broken.ensures.same ∙ same;
+      same = c.is_broken.ensures.same ∙ same;
     }
 
 pub loop-i-preserved : goal.loop-i-preserved
@@ -35,10 +35,10 @@ loop-i-preserved g c =
     let rs = g.K.Keeper.reps c.args.k.now in
     let E = c.args.entries.now in
     let i : ℕ = c.loop-i.i in (
-      c.is-broken.ensures.same ∙ same,
+      c.is_broken.ensures.same ∙ same,
       λ k d h l. elim (cases_eq k i) [
         | inl e ↦ ap (λ (j : ℕ). broken rs (get_or E j d)) e ∙ (ap (broken rs) (get_or_default E i d (Same 0 0) (omega arith))
-            ∙ (ap (λ (xs : List ℕ). broken xs (get_or E i (Same 0 0))) (sym same) ∙ (sym c.is-broken.ensures.answer ∙ c.if-is-broken.false)))
+            ∙ (ap (λ (xs : List ℕ). broken xs (get_or E i (Same 0 0))) (sym same) ∙ (sym c.is_broken.ensures.answer ∙ c.if-is_broken.false)))
         | inr n ↦ c.loop-i.invariant.1 k d (omega arith) l
       ],
     )
