@@ -1,9 +1,9 @@
 -- Each call has an answer, and one only apart from the steps of its chain. Assumes nothing.
-use Rattle.std.proofs.Common.{◌≡◌, ℕ, zero, suc, ◌+◌, ◌-◌, ◌<◌, ◌≤◌, Bool, true, false, ◌⊎◌, List, [], ◌∷◌, ◌++◌, length, All, sym, refl, ap, ◌∙◌, subst, ap₂, inl, inr, ⊎_elim, arith, length-append}
+use Rattle.std.proofs.Common.{◌≡◌, ℕ, zero, suc, ◌+◌, ◌-◌, ◌≤◌, true, false, ◌⊎◌, List, [], ◌∷◌, ◌++◌, length, All, sym, refl, ap, ◌∙◌, subst, inl, inr, ⊎_elim, arith, length-append}
 use native.Mathlib.Decide.{dec_le, ℕ_discrete}
 use Rattle.std.proofs.lemmas.List.Elements.{All-weaker, All-push, All-cons, All-head, All-nil, All-tail}
-use Rattle.theory.specs.Sheet.{Picture, Entry, same, differ, Reading, On, Placed, Proper, Satisfies, Keeps, Is, Congruence, Closure, Lowest, Counts, Classes, First, Breaks, Broken, Bears, Applies}
-use Rattle.theory.specs.Calls.{Call, add, tell, must, why, lock, reopen, value, apply, Refusal, few_cells, no_picture, full, contradiction, many_inputs, apart, Answer, added, joined, noted, told, explained, turned, valued, refused, Content, with_picture, Unless, Impossible, Differs, Shown, Contradicted, Taken, Answers, Alike, AnswerLaw}
+use Rattle.theory.specs.Sheet.{Picture, Entry, same, differ, On, Placed, Proper, Closure, Lowest, Counts, Classes, First, Breaks, Broken, Bears, Applies}
+use Rattle.theory.specs.Calls.{Call, add, tell, must, why, lock, reopen, value, apply, Refusal, few_cells, no_picture, full, contradiction, many_inputs, apart, Answer, added, joined, noted, told, explained, turned, valued, refused, Content, with_picture, Unless, Impossible, Differs, Contradicted, Taken, Answers, Alike, AnswerLaw}
 use Rattle.theory.proofs.Closed.{c_refl, lowest_same}
 use Rattle.theory.proofs.Settled.{known_all, explained_by}
 use Rattle.theory.proofs.Laws.{dec_on, find, broken_none, dec_joined, dec_closure, locked, locked_locked, locked-satisfies}

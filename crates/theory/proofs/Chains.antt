@@ -1,16 +1,16 @@
 -- A test of a reason chain that the checker computes. Assumes nothing.
-use Rattle.std.proofs.Common.{◌≡◌, ℕ, zero, suc, ◌≤◌, Bool, true, false, cond, not, ◌&&◌, eqb, leb, ◌≢◌, ◌⊎◌, List, [], ◌∷◌, ◌++◌, map, length, All, sym, refl, ap, ◌∙◌, subst, ap₂, inl, inr, append_assoc, append-nil, arith}
+use Rattle.std.proofs.Common.{◌≡◌, ℕ, zero, suc, Bool, true, false, cond, not, ◌&&◌, eqb, leb, ◌⊎◌, List, [], ◌∷◌, ◌++◌, map, length, All, sym, refl, ap, ◌∙◌, subst, inl, inr, append_assoc, append-nil}
 use lib.ListN.{length-map}
 use Rattle.std.specs.List.{AllZip}
 use Rattle.std.proofs.lemmas.Bool.{eqb-true, eqb-false, and_parts, both_ways, not-true}
 use Rattle.std.proofs.lemmas.List.Elements.{All-nil}
-use Rattle.theory.specs.Sheet.{Picture, Entry, same, differ, On, Proper, Is, operation, inputs, Twins}
+use Rattle.theory.specs.Sheet.{Picture, Entry, same, differ, On, Proper, operation, inputs}
 use Rattle.theory.specs.Reasons.{Reason, by_entry, by_twins, left, right, JoinedBy, Number, Fits, Derivation}
 use Rattle.theory.specs.Parts.{Joins}
 use Rattle.theory.specs.Journal.{Tracks}
 use Rattle.theory.proofs.Journals.{join_more_law, tracks_law, tracks_more_law}
 use Rattle.theory.proofs.Slices.{l_refl}
-use Rattle.theory.proofs.Naive.{label, eqs, twin?, to, to_hit, to_miss, merge, fresh, on?, on_on, label_map, label_fresh, length-fresh, inputs_on}
+use Rattle.theory.proofs.Naive.{label, eqs, twin?, to, to_hit, merge, fresh, on?, on_on, label_map, label_fresh, length-fresh, inputs_on}
 use Rattle.theory.proofs.Each.{uncons}
 
 abbrev pub number? : ℕ → List Entry → ℕ → ℕ → Bool

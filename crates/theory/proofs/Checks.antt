@@ -1,6 +1,6 @@
 -- The refusals follow their table. Assumes nothing.
-use Rattle.std.proofs.Common.{◌≡◌, ℕ, zero, suc, ◌+◌, ◌<◌, ◌≤◌, Bool, ◌≢◌, ◌⊎◌, ◌↔◌, List, [], ◌∷◌, ◌++◌, length, All, sym, refl, ap, ◌∙◌, inl, inr, ⊎_elim, arith}
-use Rattle.theory.specs.Sheet.{Picture, Entry, same, differ, On, Placed}
+use Rattle.std.proofs.Common.{◌≡◌, ℕ, ◌<◌, Bool, ◌≢◌, ◌⊎◌, ◌↔◌, List, [], ◌∷◌, ◌++◌, sym, ap, ◌∙◌, inl, inr, ⊎_elim, arith}
+use Rattle.theory.specs.Sheet.{Picture, Entry, same, differ}
 use Rattle.theory.specs.Calls.{Call, add, tell, must, why, lock, reopen, value, apply, Refusal, number, Answer, told, Content, Unless, Impossible, Contradicted, Taken, Answers, refusal_number, Refuses, Checked, ChecksLaw}
 
 -- a row of the table: what passes it is not refused with its number

@@ -1,10 +1,10 @@
 -- The closure is itself an equivalence that keeps every entry and puts twins together; and its lowest numbers. Assumes nothing.
-use Rattle.std.proofs.Common.{◌≡◌, ℕ, zero, suc, ◌<◌, ◌≤◌, Bool, true, false, List, [], ◌∷◌, map, length, All, sym, refl, ap, ◌∙◌, subst, ap₂, arith}
+use Rattle.std.proofs.Common.{◌≡◌, ℕ, ◌≤◌, Bool, true, false, List, [], ◌∷◌, length, All, refl, arith}
 use native.Mathlib.Decide.{dec_le}
 use Rattle.std.proofs.lemmas.Bool.{both_ways}
 use Rattle.std.specs.List.{AllZip}
 use Rattle.std.proofs.lemmas.List.Elements.{All-cons, All-head, All-nil, All-tail}
-use Rattle.theory.specs.Sheet.{Picture, Entry, same, differ, On, Ordered, Placed, Proper, operation, inputs, Keeps, Is, Twins, Congruence, Closure, Lowest}
+use Rattle.theory.specs.Sheet.{Picture, Entry, same, differ, On, Placed, inputs, Keeps, Is, Twins, Congruence, Closure, Lowest}
 use Rattle.theory.proofs.Each.{uncons}
 
 stable_le : (m n : ℕ) → ¬ ¬ (m ≤ n) → m ≤ n

@@ -1,10 +1,10 @@
 -- A chain has fewer steps than the sheet has pictures: each step takes one representative away, and one is left. Assumes nothing.
-use Rattle.std.proofs.Common.{◌≡◌, ℕ, zero, suc, ◌+◌, ◌-◌, ◌<◌, ◌≤◌, Bool, true, false, cond, eqb, ◌≢◌, ◌⊎◌, List, [], ◌∷◌, length, sym, refl, ap, ◌∙◌, subst, inl, inr, arith}
+use Rattle.std.proofs.Common.{◌≡◌, ℕ, zero, suc, ◌-◌, ◌≤◌, Bool, true, false, cond, eqb, ◌≢◌, List, [], ◌∷◌, length, sym, refl, ap, ◌∙◌, subst, arith}
 use native.Mathlib.Decide.{ℕ_discrete}
-use Rattle.std.proofs.lemmas.Bool.{cases_eq, cond-true, cond-false, eq-eqb, ne_eqb}
+use Rattle.std.proofs.lemmas.Bool.{cond-true, cond-false, eq-eqb, ne_eqb}
 use Rattle.std.proofs.lemmas.List.Elements.{All-tail}
 use Rattle.theory.specs.Sheet.{Picture, Entry, On, Proper}
-use Rattle.theory.specs.Reasons.{Reason, by_entry, by_twins, left, right, JoinedBy, Number, Fits, Derivation}
+use Rattle.theory.specs.Reasons.{Reason, by_entry, by_twins, left, right, JoinedBy, Fits, Derivation}
 use Rattle.theory.specs.Slices.{FewLaw}
 use Rattle.theory.proofs.Reasons.{number_on}
 use Rattle.theory.proofs.Slices.{l_refl, l_sym, l_trans, l_step, l_more}

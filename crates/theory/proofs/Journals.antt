@@ -1,15 +1,14 @@
 -- The laws of the journal. Assumes nothing.
-use Rattle.std.proofs.Common.{◌≡◌, ℕ, zero, suc, ◌+◌, ◌<◌, ◌≤◌, Bool, true, false, cond, eqb, leb, ◌≢◌, ◌⊎◌, List, [], ◌∷◌, ◌++◌, length, get_or, All, sym, refl, ap, ◌∙◌, subst, subst₂, inl, inr, arith, length-append}
+use Rattle.std.proofs.Common.{◌≡◌, ℕ, zero, suc, ◌+◌, ◌≤◌, Bool, cond, eqb, leb, ◌⊎◌, List, [], ◌∷◌, ◌++◌, length, All, sym, refl, ap, ◌∙◌, subst, subst₂, inl, inr, arith, length-append}
 use native.Mathlib.Decide.{dec_le}
 use Rattle.std.specs.List.{AllZip}
 use Rattle.std.proofs.lemmas.List.{get_or_append_left}
 use Rattle.std.proofs.lemmas.List.Elements.{All-push, All-weaker, All-cons, All-head, All-nil, All-tail}
 use Rattle.std.proofs.lemmas.Bool.{cond-true, cond-false, le-leb, lt-leb, eq-eqb, eqb-true}
-use Rattle.theory.specs.Sheet.{Picture, Entry, same, differ, blank, picture, operation, inputs, On, Ordered, Proper, Is, Twins}
+use Rattle.theory.specs.Sheet.{Picture, Entry, same, differ, blank, picture, inputs, On, Proper, Is}
 use Rattle.theory.specs.Reasons.{Reason, by_entry, by_twins, left, right, Equivalence, JoinedBy, Number, Fits, Derivation, StepLaw}
-use Rattle.theory.specs.Parts.{Joins}
-use Rattle.theory.specs.Journal.{JoinMoreLaw, EntryMoreLaw, PictureMoreLaw, Tracks, TracksLaw, TracksMoreLaw}
-use Rattle.theory.proofs.Slices.{Part, l_refl, l_sym, l_trans, l_step, l_more}
+use Rattle.theory.specs.Journal.{JoinMoreLaw, EntryMoreLaw, PictureMoreLaw, TracksLaw, TracksMoreLaw}
+use Rattle.theory.proofs.Slices.{Part, l_sym, l_trans, l_more}
 use Rattle.theory.proofs.Few.{ends_on}
 use Rattle.theory.proofs.Each.{uncons}
 

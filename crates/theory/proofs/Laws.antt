@@ -1,14 +1,14 @@
 -- The three laws. Assumes nothing.
-use Rattle.std.proofs.Common.{◌≡◌, ℕ, zero, suc, ◌<◌, ◌≤◌, Bool, true, ◌≢◌, ◌⊎◌, ◌↔◌, List, [], ◌∷◌, map, length, All, sym, refl, ap, ◌∙◌, subst, ap₂, inl, inr, arith}
+use Rattle.std.proofs.Common.{◌≡◌, ℕ, zero, suc, ◌<◌, ◌≤◌, ◌⊎◌, List, [], ◌∷◌, map, length, All, sym, refl, ◌∙◌, subst, inl, inr, arith}
 use native.Mathlib.Decide.{ℕ_discrete, dec_le}
 use lib.ListN.{length-map}
 use Rattle.std.specs.List.{AllZip}
 use Rattle.std.proofs.lemmas.List.Elements.{All-weaker, All-cons, All-head, All-nil, All-tail}
-use Rattle.theory.specs.Sheet.{Picture, Entry, same, differ, Reading, On, Ordered, Placed, Proper, value, value_to, operation, inputs, Holds, Satisfies, Keeps, Is, Twins, Congruence, Closure, Lowest, First, Breaks, Broken, Bears, Applies, Locked}
-use Rattle.theory.specs.Statements.{ValueLaw, Known, Satisfiable, ContradictionLaw, MustLaw, LockedLaw}
+use Rattle.theory.specs.Sheet.{Picture, Entry, same, differ, Reading, On, Ordered, Placed, Proper, value, value_to, operation, inputs, Holds, Satisfies, Keeps, Closure, Lowest, First, Breaks, Broken, Bears, Locked}
+use Rattle.theory.specs.Statements.{Known, Satisfiable, ContradictionLaw, MustLaw, LockedLaw}
 use Rattle.theory.proofs.Values.{sound}
 use Rattle.theory.proofs.Settled.{known_all}
-use Rattle.theory.proofs.Closed.{c_refl, c_sym, c_trans, c_twins, c_keeps, lowest_same, lowest_joins, lowest_moves, each_joins}
+use Rattle.theory.proofs.Closed.{c_refl, c_twins, c_keeps, lowest_same, lowest_joins, lowest_moves, each_joins}
 use Rattle.theory.proofs.Each.{uncons}
 
 -- LISTS. If Q is nowhere first, it is nowhere

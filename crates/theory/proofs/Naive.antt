@@ -1,13 +1,12 @@
 -- A slow closure that the checker computes, with a test of what it finds: a label for each picture. Assumes nothing.
-use Rattle.std.proofs.Common.{◌≡◌, ℕ, zero, suc, ◌+◌, ◌<◌, ◌≤◌, Bool, true, false, cond, not, ◌&&◌, ◌||◌, eqb, leb, ◌⊎◌, List, [], ◌∷◌, map, length, get_or, All, sym, refl, ap, ◌∙◌, subst, ap₂, inl, inr, ⊎_elim, le_of_suc-le-suc, arith}
-use native.Mathlib.Decide.{ℕ_discrete, dec_le}
+use Rattle.std.proofs.Common.{◌≡◌, ℕ, zero, suc, ◌+◌, ◌<◌, ◌≤◌, Bool, true, false, cond, not, ◌&&◌, ◌||◌, eqb, leb, List, [], ◌∷◌, map, length, get_or, All, sym, refl, ap, ◌∙◌, subst, ap₂, ⊎_elim, arith}
+use native.Mathlib.Decide.{ℕ_discrete}
 use lib.ListN.{length-map}
 use Rattle.std.specs.List.{AllZip}
 use Rattle.std.proofs.lemmas.List.Elements.{All-weaker, All-cons, All-nil, All-tail}
 use Rattle.std.proofs.lemmas.List.{get_or-map}
-use Rattle.std.proofs.lemmas.Bool.{eq-eqb, eqb-true, eqb-false, ne_eqb, le-leb, not-false, cases_order, and_cases, leb-true, and_parts, and_from, or_cases, both_ways, not-true, cases_Bool}
-use Rattle.theory.specs.Sheet.{Picture, Entry, same, differ, On, Ordered, Placed, Proper, picture, blank, operation, inputs, Keeps, Is, Twins, Congruence, Closure, Lowest}
-use Rattle.theory.specs.Statements.{Known}
+use Rattle.std.proofs.lemmas.Bool.{eq-eqb, eqb-true, ne_eqb, leb-true, and_parts, and_from, or_cases, both_ways, not-true}
+use Rattle.theory.specs.Sheet.{Picture, Entry, same, differ, On, Ordered, Placed, Proper, operation, inputs, Keeps, Is, Twins, Congruence, Closure, Lowest}
 use Rattle.theory.proofs.Closed.{c_refl, c_sym, c_trans, c_twins, c_keeps}
 use Rattle.theory.proofs.Each.{uncons}
 

@@ -1,8 +1,8 @@
 -- The number of classes of a labelling. Assumes nothing.
-use Rattle.std.proofs.Common.{◌≡◌, ℕ, zero, suc, ◌<◌, ◌≤◌, ◌≢◌, ◌⊎◌, ◌↔◌, List, length, sym, refl, ap, ◌∙◌, subst, inl, inr, ⊎_elim, le_antisymm, arith}
+use Rattle.std.proofs.Common.{◌≡◌, ℕ, zero, suc, ◌<◌, ◌≤◌, ◌≢◌, ◌⊎◌, ◌↔◌, length, sym, refl, ap, ◌∙◌, subst, inl, inr, ⊎_elim, le_antisymm, arith}
 use native.Mathlib.Decide.{ℕ_discrete, dec_le}
 use Rattle.std.proofs.lemmas.Bool.{cases_order}
-use Rattle.theory.specs.Sheet.{Picture, Entry, On, Closure, Lowest, Counts, Classes}
+use Rattle.theory.specs.Sheet.{Lowest, Counts}
 use Rattle.theory.proofs.Small.{counts_one, counts_some}
 use Rattle.theory.specs.Parts.{Leads, Parts, Joins, JoinLaw, PartsLaw}
 

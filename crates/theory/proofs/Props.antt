@@ -1,12 +1,12 @@
 -- A chain is one in at most one way, and so is what can stand on a sheet: a ghost field keeps them truncated, and a proof takes them out again. Assumes nothing.
-use Rattle.std.proofs.Common.{◌≡◌, ℕ, zero, suc, ◌<◌, ◌≤◌, Bool, List, [], ◌∷◌, get_or, All, refl}
+use Rattle.std.proofs.Common.{◌≡◌, ℕ, zero, suc, ◌<◌, ◌≤◌, List, [], ◌∷◌, get_or, All, refl}
 use mathlib.Core.Logic.{∥∥₁_elim}
 use native.Mathlib.Bridge.{le_prop}
 use base.Stored.{coded_ℕ, coded_bool}
 use denote.Struct.Props.{≡_prop}
 use Rattle.std.specs.List.{AllZip}
-use Rattle.theory.specs.Sheet.{Picture, Entry, same, differ, On, Ordered, Placed, Proper, Is, Twins, operation, inputs}
-use Rattle.theory.specs.Reasons.{Reason, by_entry, by_twins, left, right, JoinedBy, Number, Fits, Derivation}
+use Rattle.theory.specs.Sheet.{Picture, Entry, same, differ, On, Placed, Proper, inputs}
+use Rattle.theory.specs.Reasons.{Reason, by_entry, by_twins, JoinedBy, Number, Fits, Derivation}
 
 pub all_prop : {X : Type 0} (Q : X → Type 0) → ((x : X) → IsProp (Q x)) → (xs : List X) → IsProp (All Q xs)
 all_prop Q h xs a b = λ i k d lt. h (get_or xs k d) (a k d lt) (b k d lt) i

@@ -1,8 +1,8 @@
 -- What a chain joins is in one class. Assumes nothing.
-use Rattle.std.proofs.Common.{◌≡◌, ℕ, zero, suc, Bool, List, [], ◌∷◌, All, subst, subst₂}
+use Rattle.std.proofs.Common.{ℕ, zero, suc, Bool, List, [], ◌∷◌, All, subst, subst₂}
 use Rattle.std.specs.List.{AllZip}
 use Rattle.std.proofs.lemmas.List.Elements.{All-cons, All-head, All-nil, All-tail}
-use Rattle.theory.specs.Sheet.{Picture, Entry, same, differ, On, Placed, Proper, Is, Keeps, Twins, Congruence, Closure, inputs}
+use Rattle.theory.specs.Sheet.{Picture, Entry, same, differ, On, Placed, Is, Keeps, Congruence, inputs}
 use Rattle.theory.specs.Reasons.{Reason, by_entry, by_twins, left, right, Equivalence, JoinedBy, Number, Fits, Derivation, DerivationLaw}
 
 module _ (P : List Picture) (E : List Entry) (R : ℕ → ℕ → Bool) (g : Congruence P E R) where
@@ -39,7 +39,7 @@ chain_law P E a b T x = let l = x.1 in (l.0, l.1, λ R g. l.2 R (equivalence P E
 pub number_on : (P : List Picture) (F : List Entry) → All (Placed P) F → (k l r : ℕ) → Number k F l r → On P l × On P r
 number_on P [] w k l r n = absurd n
 number_on P (e ∷ F) w zero l r n = absurd n
-number_on P (same a b ∷ F) w (suc zero) l r n = 
+number_on P (same a b ∷ F) w (suc zero) l r n =
     let v = All-head (Placed P) (same a b) F w in (subst (λ x. On P x) n.0 v.0, subst (λ x. On P x) n.1 v.1)
 number_on P (differ a b ∷ F) w (suc zero) l r n = absurd n
 number_on P (e ∷ F) w (suc (suc k)) l r n = number_on P F (All-tail (Placed P) e F w) (suc k) l r n

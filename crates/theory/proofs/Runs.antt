@@ -3,7 +3,7 @@ use Rattle.std.proofs.Common.{◌≡◌, ℕ, ◌+◌, ◌-◌, ◌<◌, ◌≤�
 use Rattle.std.specs.List.{AllZip}
 use Rattle.std.proofs.lemmas.List.Elements.{All-weaker, All-push, All-nil}
 use Rattle.std.proofs.lemmas.Bool.{true≢false}
-use Rattle.theory.specs.Sheet.{Picture, Entry, same, differ, Reading, On, Placed, Proper, value, operation, inputs, Satisfies, Breaks, Broken, Lowest, Applies, Locked}
+use Rattle.theory.specs.Sheet.{Picture, Entry, same, differ, Reading, On, Placed, Proper, value, Satisfies, Breaks, Broken, Lowest, Applies, Locked}
 use Rattle.theory.specs.Calls.{Call, add, tell, must, why, lock, reopen, apply, Refusal, full, Answer, added, told, valued, refused, Content, empty, with_picture, with_entry, is_refused, refusal_steps, steps, Shown, Unless, Impossible, Taken, Answers, Alike, after}
 use Rattle.theory.specs.Calls as calls
 use Rattle.theory.specs.Runs.{Goes, leaves, Within, FewSteps, Refuted, NextEntry, MustSays, ReadOff, RunLaw, SameCallsLaw, CapacityLaw}

@@ -1,14 +1,13 @@
 -- For every sheet: labels that are the closure's, with a journal of the joins that made them. Assumes nothing.
-use Rattle.std.proofs.Common.{◌≡◌, ℕ, zero, suc, ◌+◌, ◌<◌, ◌≤◌, Bool, true, false, cond, not, ◌&&◌, ◌||◌, eqb, leb, ◌≢◌, ◌⊎◌, List, [], ◌∷◌, ◌++◌, map, length, get_or, All, sym, refl, ap, ◌∙◌, subst, inl, inr, ⊎_elim, arith}
-use lib.ListN.{length-map}
-use Rattle.std.proofs.lemmas.Bool.{eq-eqb, eqb-true, eqb-false, le-leb, not-false, cases_order, and_cases, and_parts, and_from, both_ways}
+use Rattle.std.proofs.Common.{◌≡◌, ℕ, zero, suc, ◌+◌, ◌<◌, ◌≤◌, Bool, true, false, cond, not, ◌&&◌, ◌||◌, eqb, ◌≢◌, List, [], ◌∷◌, ◌++◌, map, length, get_or, All, sym, refl, ap, ◌∙◌, subst, ⊎_elim, arith}
+use Rattle.std.proofs.lemmas.Bool.{eq-eqb, eqb-true, eqb-false, le-leb, not-false, cases_order, and_cases, and_from, both_ways}
 use Rattle.std.proofs.lemmas.List.Elements.{All-head, All-tail}
-use Rattle.theory.specs.Sheet.{Picture, Entry, same, differ, On, Placed, Proper, operation, inputs, Closure, Lowest}
+use Rattle.theory.specs.Sheet.{Picture, Entry, same, differ, On, Placed, Proper, Closure}
 use Rattle.theory.specs.Statements.{Known}
-use Rattle.theory.specs.Reasons.{Reason, by_entry, by_twins, left, right, JoinedBy, Number, Fits, Derivation, Explains, ExplainsLaw}
+use Rattle.theory.specs.Reasons.{Reason, by_entry, by_twins, left, right, Number, Fits, Derivation, Explains, ExplainsLaw}
 use Rattle.theory.specs.Parts.{Joins}
 use Rattle.theory.proofs.Closed.{lowest_same, c_sym}
-use Rattle.theory.proofs.Naive.{label, eqs, twin?, to, to_hit, to_miss, fresh, upto, each?, kept?, low?, twins?, closed?, Good, good_to, good-fresh, label_map, label_fresh, length-fresh, inputs_on, lowest-label, some_upto}
+use Rattle.theory.proofs.Naive.{label, twin?, to, to_hit, to_miss, fresh, upto, each?, kept?, low?, twins?, closed?, Good, good_to, good-fresh, label_map, label_fresh, lowest-label, some_upto}
 use Rattle.theory.proofs.Reasons.{chain_law}
 use Rattle.theory.proofs.Journals.{join_more_law, tracks_law, tracks_more_law}
 use Rattle.theory.proofs.Chains.{Grown, start, swapped, to_joins, fits-from}

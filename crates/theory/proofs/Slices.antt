@@ -1,9 +1,8 @@
 -- A supported slice of a chain is a chain. Assumes nothing.
-use Rattle.std.proofs.Common.{◌≡◌, ℕ, zero, suc, ◌≤◌, Bool, true, false, List, [], ◌∷◌, ◌++◌, length, take, All, sym, refl, subst}
-use Rattle.std.specs.List.{AllZip}
+use Rattle.std.proofs.Common.{ℕ, zero, suc, Bool, true, false, List, [], ◌∷◌, take, All}
 use Rattle.std.proofs.lemmas.List.Elements.{All-cons, All-head, All-tail}
-use Rattle.theory.specs.Sheet.{Picture, Entry, On, Is, Twins, inputs}
-use Rattle.theory.specs.Reasons.{Reason, by_entry, by_twins, left, right, Equivalence, JoinedBy, Number, Fits, Derivation}
+use Rattle.theory.specs.Sheet.{Picture, Entry, On, Is}
+use Rattle.theory.specs.Reasons.{Reason, by_entry, by_twins, left, right, JoinedBy, Fits, Derivation}
 use Rattle.theory.specs.Slices.{kept, Propped, Supported, SliceLaw}
 
 -- what all of T have, all of S have

@@ -1,9 +1,9 @@
 -- The small laws. Assumes nothing.
-use Rattle.std.proofs.Common.{◌≡◌, ℕ, zero, suc, ◌<◌, ◌≤◌, Bool, ◌≢◌, ◌⊎◌, List, [], ◌∷◌, ◌++◌, length, All, Contains, sym, refl, ap, ◌∙◌, subst, inl, inr, arith}
+use Rattle.std.proofs.Common.{◌≡◌, ℕ, zero, suc, ◌≤◌, List, [], ◌∷◌, ◌++◌, length, All, sym, refl, ap, ◌∙◌, subst, inl, inr, arith}
 use native.Mathlib.Decide.{ℕ_discrete}
 use Rattle.std.specs.List.{AllZip}
 use Rattle.std.proofs.lemmas.List.Elements.{All-contains, All-push, All-cons, All-nil}
-use Rattle.theory.specs.Sheet.{Picture, Entry, differ, On, Placed, Proper, Is, Keeps, Congruence, Closure, Lowest, Counts, Classes, Bears, Applies, inputs}
+use Rattle.theory.specs.Sheet.{Picture, Entry, differ, On, Is, Keeps, Closure, Lowest, Counts, inputs}
 use Rattle.theory.specs.Laws.{ClosureLaw, LowestLaw, ClassesLaw, Valued, NoValueLaw, DifferLaw}
 use Rattle.theory.proofs.Closed.{c_refl, c_sym, c_trans, c_twins, c_keeps, lowest_same}
 use Rattle.theory.proofs.Settled.{known_all}

@@ -1,4 +1,6 @@
 // What the answers of a sheet mean: each function's contract is a theorem about the definitions in specs/.
+#![tactic(auto)]
+
 ghost use Rattle.theory.specs.Statements.{ValueLaw, ShortLaw, ContradictionLaw, MustLaw, LockedLaw};
 ghost use Rattle.theory.specs.Laws.{ClosureLaw, LowestLaw, ClassesLaw, NoValueLaw, AddLaw, DifferLaw, TwinsLaw, TwinLaw};
 ghost use Rattle.theory.specs.Reasons.{StepLaw, DerivationLaw, ExplainsLaw};
