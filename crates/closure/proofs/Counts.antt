@@ -1,9 +1,9 @@
 -- Classes and joins, counted. Assumes nothing.
-use Rattle.std.proofs.Common.{◌≡◌, ℕ, zero, suc, ◌+◌, ◌<◌, ◌≤◌, true, false, cond, eqb, List, [], ◌∷◌, ◌++◌, map, length, sym, refl, ap, ◌∙◌, subst, inl, arith}
+use Rattle.std.proofs.Common.{◌≡◌, ℕ, ◌+◌, ◌<◌, List, [], ◌∷◌, ◌++◌, map, length, sym, refl, ap, ◌∙◌, inl, arith}
 use Rattle.std.proofs.lemmas.List.{map-id}
 use Rattle.std.proofs.lemmas.List.FromFn.{map-range_with_len_more}
 use Rattle.std.specs.List.{range_with_len}
-use Rattle.keepers.specs.Meaning.{rep, Within, Settled, Unites, moved, ends, class_count}
+use Rattle.keepers.specs.Meaning.{rep, Settled, Unites, moved}
 use Rattle.keepers.specs.ClassCounts.{classes_few}
 use Rattle.keepers.specs.Drops.{fewer}
 use Rattle.keepers.specs.Reps.{united_length}

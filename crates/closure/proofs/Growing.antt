@@ -1,8 +1,8 @@
 -- One picture more. Assumes nothing.
-use Rattle.std.proofs.Common.{◌≡◌, ℕ, zero, suc, ◌+◌, ◌<◌, ◌≤◌, Bool, true, false, cond, eqb, List, [], ◌∷◌, ◌++◌, length, All, Option, sym, refl, ap, ◌∙◌, subst, add-one, arith}
+use Rattle.std.proofs.Common.{◌≡◌, ℕ, ◌<◌, ◌≤◌, List, [], ◌∷◌, ◌++◌, length, All, Option, sym, ap, ◌∙◌, subst, arith}
 use Rattle.std.proofs.lemmas.List.Elements.{All-push, All-weaker}
 use Rattle.std.proofs.lemmas.List.{length_push}
-use Rattle.keepers.specs.Meaning.{Upto, rep, ends, class_count}
+use Rattle.keepers.specs.Meaning.{Upto}
 use Rattle.keepers.specs.ClassCounts.{classes_push}
 use Rattle.indexes.specs.Rows.{cells_of}
 use Rattle.closure.specs.declared.picture.Picture.{Picture}

@@ -1,5 +1,5 @@
 -- What a look at a waiting picture comes to. Assumes nothing.
-use Rattle.std.specs.Prelude.{◌≡◌, ℕ, ◌≢◌, List}
+use Rattle.std.specs.Prelude.{ℕ, ◌≢◌, List}
 use Rattle.keepers.specs.Meaning.{rep, Within}
 use Rattle.closure.specs.declared.settling.Sight.{Sight}
 use Rattle.closure.specs.declared.settling.Sight.TheVariants.{Posted, Twin}

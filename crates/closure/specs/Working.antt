@@ -1,6 +1,6 @@
 -- What holds while classes are joined: rs is the keeper's list of representatives, P the pictures, m the index's map, J the journal.
 -- Assumes nothing.
-use Rattle.std.specs.Prelude.{◌≡◌, ℕ, ◌+◌, ◌<◌, ◌≤◌, ◌≢◌, List, length, Some, All, Option}
+use Rattle.std.specs.Prelude.{◌≡◌, ℕ, ◌+◌, ◌≤◌, ◌≢◌, List, length, Some, All, Option}
 use Rattle.keepers.specs.Meaning.{Upto, Within, rep, class_count}
 use Rattle.indexes.specs.Rows.{cells_of}
 use Rattle.closure.specs.declared.picture.Picture.{Picture}

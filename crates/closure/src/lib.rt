@@ -1,4 +1,5 @@
 // The congruence closure of a row of pictures, kept up to date through any class keeper and any signature index.
+#![tactic(auto)]
 
 // pictures, and what is noted of them while classes are joined
 pub mod picture;

@@ -11,8 +11,8 @@ use keepers::{Keeper, Outcome};
 
 // Makes the two classes of a join one.
 fn unite<K: Keeper>(k: &mut K, join: &Join)
-    requires { Apart (reps k.old) join.now }
-    ensures { Unites join.now.left join.now.right (reps k.old) (reps k.new) }
+    requires { Apart (K.reps k.old) join.now }
+    ensures { Unites join.now.left join.now.right (K.reps k.old) (K.reps k.new) }
 {
     match k.join(join.left, join.right) {
         Ok(Outcome::Merged) => {}
@@ -23,7 +23,7 @@ fn unite<K: Keeper>(k: &mut K, join: &Join)
 
 // Takes the picture at a place out of the index, and lets it wait, if its row has the lost representative.
 fn withdraw<I: Index>(index: &mut I, picture: &Picture, note: &mut Note, lost: u16)
-    ensures { (n : ℕ) → Inward n (held (leads index.old)) → Inward n (held (leads index.new)) }
+    ensures { (n : ℕ) → Inward n (held (I.leads index.old)) → Inward n (held (I.leads index.new)) }
 {
     if !note.waits && note.row.as_slice().contains(&lost) {
         index.delete(picture.op, note.row.as_slice());
@@ -34,7 +34,7 @@ fn withdraw<I: Index>(index: &mut I, picture: &Picture, note: &mut Note, lost: u
 // Takes each picture whose row has the lost representative out of the index, and lets it wait.
 fn withdraw_all<I: Index>(index: &mut I, pictures: &[Picture], notes: &mut [Note], lost: u16)
     requires { length notes.old ≡ length pictures.now }
-    ensures { (n : ℕ) → Inward n (held (leads index.old)) → Inward n (held (leads index.new)) }
+    ensures { (n : ℕ) → Inward n (held (I.leads index.old)) → Inward n (held (I.leads index.new)) }
 {
     for i in 0..pictures.len() {
         withdraw(index, &pictures[i], &mut notes[i], lost);
@@ -50,14 +50,14 @@ pub fn merge<K: Keeper, I: Index>(
     journal: &mut Vec<Join>,
     join: Join,
 )
-    requires apart { Apart (reps k.old) join }
+    requires apart { Apart (K.reps k.old) join }
     requires sized { length notes.old ≡ length pictures.now }
     requires room { vec_len journal.old < vec_capacity journal.old }
-    ensures unites { Unites join.left join.right (reps k.old) (reps k.new) }
+    ensures unites { Unites join.left join.right (K.reps k.old) (K.reps k.new) }
     ensures items { journal.new.items ≡ journal.old.items ++ join ∷ [] }
     ensures len { vec_len journal.new ≡ vec_len journal.old + 1 }
     ensures space { vec_capacity journal.new ≡ vec_capacity journal.old }
-    ensures inward { (n : ℕ) → Inward n (held (leads index.old)) → Inward n (held (leads index.new)) }
+    ensures inward { (n : ℕ) → Inward n (held (I.leads index.old)) → Inward n (held (I.leads index.new)) }
 {
     let a = root(k, join.left);
     let b = root(k, join.right);

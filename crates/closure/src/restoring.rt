@@ -13,8 +13,8 @@ use keepers::Keeper;
 
 // Makes the keeper count n pictures, each alone.
 fn populate<K: Keeper>(k: &mut K, n: u16)
-    requires { n ≤ limit }
-    ensures { reps k.new ≡ range_with_len 1 n }
+    requires { n ≤ K.limit }
+    ensures { K.reps k.new ≡ range_with_len 1 n }
 {
     k.reset();
     for _i in 0..n {
@@ -27,10 +27,10 @@ fn populate<K: Keeper>(k: &mut K, n: u16)
 
 // How many joins of the journal, from the first on, put two pictures together. The keeper then has the classes of these joins.
 pub fn reach<K: Keeper>(k: &mut K, n: u16, journal: &[Join], a: u16, b: u16) -> usize
-    requires few { n ≤ limit }
+    requires few { n ≤ K.limit }
     requires on { Upto n a × Upto n b }
     ensures within { result ≤ length journal.now }
-    ensures counted { length (reps k.new) ≡ n }
+    ensures counted { length (K.reps k.new) ≡ n }
 {
     populate(k, n);
     for i in 0..journal.len() {
@@ -57,13 +57,13 @@ pub fn restart<K: Keeper, I: Index>(
     notes: &mut [Note],
     journal: &mut Vec<Join>,
 )
-    requires ready { Ready (reps k.old) pictures.now }
-    requires few { length pictures.now ≤ limit }
+    requires ready { Ready (K.reps k.old) pictures.now }
+    requires few { length pictures.now ≤ K.limit }
     requires sized { length notes.old ≡ length pictures.now }
     requires room { 1024 ≤ vec_capacity journal.old }
-    ensures ready { Ready (reps k.new) pictures.now }
-    ensures inward { Inward (length pictures.now) (held (leads index.new)) }
-    ensures booked { Booked (reps k.new) (vec_len journal.new) }
+    ensures ready { Ready (K.reps k.new) pictures.now }
+    ensures inward { Inward (length pictures.now) (held (I.leads index.new)) }
+    ensures booked { Booked (K.reps k.new) (vec_len journal.new) }
     ensures space { vec_capacity journal.new ≡ vec_capacity journal.old }
 {
     populate(k, pictures.len() as u16);

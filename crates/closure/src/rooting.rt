@@ -8,9 +8,9 @@ use keepers::Keeper;
 
 // The representative of a picture.
 pub fn root<K: Keeper>(k: &mut K, p: u16) -> u16
-    requires { Within (reps k.old) p }
-    ensures answer { result ≡ rep (reps k.old) p }
-    ensures same { reps k.new ≡ reps k.old }
+    requires { Within (K.reps k.old) p }
+    ensures answer { result ≡ rep (K.reps k.old) p }
+    ensures same { K.reps k.new ≡ K.reps k.old }
 {
     match k.find(p) {
         Ok(r) => r,
@@ -20,18 +20,18 @@ pub fn root<K: Keeper>(k: &mut K, p: u16) -> u16
 
 // Whether two pictures are in one class.
 pub fn together<K: Keeper>(k: &mut K, p: u16, q: u16) -> bool
-    requires on { Within (reps k.old) p × Within (reps k.old) q }
-    ensures answer { result ≡ (rep (reps k.old) p == rep (reps k.old) q) }
-    ensures same { reps k.new ≡ reps k.old }
+    requires on { Within (K.reps k.old) p × Within (K.reps k.old) q }
+    ensures answer { result ≡ (rep (K.reps k.old) p == rep (K.reps k.old) q) }
+    ensures same { K.reps k.new ≡ K.reps k.old }
 {
     root(k, p) == root(k, q)
 }
 
 // The representatives of a row.
 pub fn roots<K: Keeper>(k: &mut K, row: &Row) -> Row
-    requires { All (Within (reps k.old)) (cells_of row.now) }
-    ensures answer { cells_of result ≡ map (rep (reps k.old)) (cells_of row.now) }
-    ensures same { reps k.new ≡ reps k.old }
+    requires { All (Within (K.reps k.old)) (cells_of row.now) }
+    ensures answer { cells_of result ≡ map (rep (K.reps k.old)) (cells_of row.now) }
+    ensures same { K.reps k.new ≡ K.reps k.old }
 {
     let inputs = row.as_slice();
     let n = inputs.len();
@@ -47,9 +47,9 @@ pub fn roots<K: Keeper>(k: &mut K, row: &Row) -> Row
 
 // The lowest number in the class of a picture.
 pub fn lowest<K: Keeper>(k: &mut K, p: u16) -> u16
-    requires { Within (reps k.old) p }
-    ensures answer { Lowest (reps k.old) p result }
-    ensures same { reps k.new ≡ reps k.old }
+    requires { Within (K.reps k.old) p }
+    ensures answer { Lowest (K.reps k.old) p result }
+    ensures same { K.reps k.new ≡ K.reps k.old }
 {
     for q in 1..p {
         if together(k, q, p) {
@@ -61,9 +61,9 @@ pub fn lowest<K: Keeper>(k: &mut K, p: u16) -> u16
 
 // The number of classes among the pictures 1 to n.
 pub fn classes<K: Keeper>(k: &mut K, n: u16) -> u16
-    requires { n ≡ length (reps k.old) }
-    ensures answer { result ≡ class_count (reps k.old) }
-    ensures same { reps k.new ≡ reps k.old }
+    requires { n ≡ length (K.reps k.old) }
+    ensures answer { result ≡ class_count (K.reps k.old) }
+    ensures same { K.reps k.new ≡ K.reps k.old }
 {
     let mut c = 0;
     for i in 0..n {

@@ -22,12 +22,12 @@ pub enum Sight {
 
 // Looks the signature of picture p up, and enters it where it is not held.
 fn visit<K: Keeper, I: Index>(k: &mut K, index: &mut I, picture: &Picture, p: u16) -> Sight
-    requires on { Within (reps k.old) p }
-    requires fed { Fed (length (reps k.old)) picture.now }
-    requires inward { Inward (length (reps k.old)) (held (leads index.old)) }
-    ensures same { reps k.new ≡ reps k.old }
-    ensures seen { Seen (reps k.old) p result }
-    ensures inward { Inward (length (reps k.old)) (held (leads index.new)) }
+    requires on { Within (K.reps k.old) p }
+    requires fed { Fed (length (K.reps k.old)) picture.now }
+    requires inward { Inward (length (K.reps k.old)) (held (I.leads index.old)) }
+    ensures same { K.reps k.new ≡ K.reps k.old }
+    ensures seen { Seen (K.reps k.old) p result }
+    ensures inward { Inward (length (K.reps k.old)) (held (I.leads index.new)) }
 {
     let row = roots(k, &picture.inputs);
     match index.query(picture.op, row.as_slice()) {
@@ -52,12 +52,12 @@ fn sweep<K: Keeper, I: Index>(
     pictures: &[Picture],
     notes: &mut [Note],
 ) -> Option<Join>
-    requires ready { Ready (reps k.old) pictures.now }
+    requires ready { Ready (K.reps k.old) pictures.now }
     requires sized { length notes.old ≡ length pictures.now }
-    requires inward { Inward (length pictures.now) (held (leads index.old)) }
-    ensures same { reps k.new ≡ reps k.old }
-    ensures found { IfSome result (λ j. Apart (reps k.old) j) }
-    ensures inward { Inward (length pictures.now) (held (leads index.new)) }
+    requires inward { Inward (length pictures.now) (held (I.leads index.old)) }
+    ensures same { K.reps k.new ≡ K.reps k.old }
+    ensures found { IfSome result (λ j. Apart (K.reps k.old) j) }
+    ensures inward { Inward (length pictures.now) (held (I.leads index.new)) }
 {
     for i in 0..pictures.len() {
         if notes[i].waits {
@@ -83,13 +83,13 @@ pub fn settle<K: Keeper, I: Index>(
     notes: &mut [Note],
     journal: &mut Vec<Join>,
 )
-    requires ready { Ready (reps k.old) pictures.now }
+    requires ready { Ready (K.reps k.old) pictures.now }
     requires sized { length notes.old ≡ length pictures.now }
-    requires inward { Inward (length pictures.now) (held (leads index.old)) }
-    requires booked { Booked (reps k.old) (vec_len journal.old) }
+    requires inward { Inward (length pictures.now) (held (I.leads index.old)) }
+    requires booked { Booked (K.reps k.old) (vec_len journal.old) }
     requires room { 1024 ≤ vec_capacity journal.old }
-    ensures progress { Progress (reps k.old) (reps k.new) (vec_len journal.old) (vec_len journal.new) }
-    ensures inward { Inward (length pictures.now) (held (leads index.new)) }
+    ensures progress { Progress (K.reps k.old) (K.reps k.new) (vec_len journal.old) (vec_len journal.new) }
+    ensures inward { Inward (length pictures.now) (held (I.leads index.new)) }
     ensures space { vec_capacity journal.new ≡ vec_capacity journal.old }
 {
     while let Some(join) = sweep(k, index, pictures, notes) {
@@ -106,14 +106,14 @@ pub fn tie<K: Keeper, I: Index>(
     journal: &mut Vec<Join>,
     join: Join,
 )
-    requires ready { Ready (reps k.old) pictures.now }
+    requires ready { Ready (K.reps k.old) pictures.now }
     requires on { Upto (length pictures.now) join.left × Upto (length pictures.now) join.right }
     requires sized { length notes.old ≡ length pictures.now }
-    requires inward { Inward (length pictures.now) (held (leads index.old)) }
-    requires booked { Booked (reps k.old) (vec_len journal.old) }
+    requires inward { Inward (length pictures.now) (held (I.leads index.old)) }
+    requires booked { Booked (K.reps k.old) (vec_len journal.old) }
     requires room { 1024 ≤ vec_capacity journal.old }
-    ensures progress { Progress (reps k.old) (reps k.new) (vec_len journal.old) (vec_len journal.new) }
-    ensures inward { Inward (length pictures.now) (held (leads index.new)) }
+    ensures progress { Progress (K.reps k.old) (K.reps k.new) (vec_len journal.old) (vec_len journal.new) }
+    ensures inward { Inward (length pictures.now) (held (I.leads index.new)) }
     ensures space { vec_capacity journal.new ≡ vec_capacity journal.old }
 {
     if together(k, join.left, join.right) {

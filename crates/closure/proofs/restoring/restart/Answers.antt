@@ -1,7 +1,6 @@
-use Rattle.std.proofs.Common.{◌≡◌, ℕ, List, length, sym, refl, ap, ◌∙◌, subst, arith}
+use Rattle.std.proofs.Common.{length, ap, ◌∙◌, arith}
 use Rattle.std.proofs.lemmas.List.FromFn.{length-range_with_len}
-use Rattle.indexes.specs.Meaning.{Lead, held}
-use Rattle.closure.specs.Working.{Ready, Inward}
+use Rattle.closure.specs.Working.{Ready}
 use Rattle.closure.proofs.Inwards.{empty_inward}
 use Rattle.closure.proofs.Counts.{booked_none, progress_ready, progress_booked}
 use Rattle.closure.proofs.restoring.restart.Goals as goal

@@ -1,9 +1,8 @@
-use Rattle.std.proofs.Common.{◌≡◌, ℕ, ◌<◌, ◌≤◌, List, map, length, get_or, take, All, sym, ap, ◌∙◌, subst, arith, length-set}
+use Rattle.std.proofs.Common.{◌≡◌, ℕ, List, map, length, get_or, take, All, sym, ap, ◌∙◌, subst, arith, length-set}
 use native.Mathlib.Nat.{sub-zero}
 use Rattle.std.proofs.lemmas.List.Elements.{All-get_or}
 use Rattle.std.proofs.lemmas.List.{take_all}
 use Rattle.keepers.specs.Meaning.{rep, Within}
-use Rattle.indexes.specs.Rows.{cells_of}
 use Rattle.closure.proofs.Rows.{mapped_more}
 use Rattle.closure.proofs.rooting.roots.Goals as goal
 

@@ -1,5 +1,5 @@
-use Rattle.std.proofs.Common.{◌≡◌, ℕ, ◌+◌, ◌<◌, ◌≤◌, List, length, vec_len, sym, ap, ◌∙◌, subst, arith}
-use Rattle.keepers.specs.Meaning.{Unites, class_count}
+use Rattle.std.proofs.Common.{ℕ, List, vec_len, sym, ◌∙◌, subst, arith}
+use Rattle.keepers.specs.Meaning.{Unites}
 use Rattle.closure.specs.Working.{Apart, Progress}
 use Rattle.closure.proofs.Counts.{joined_progress, progress_then, progress_booked, apart_room}
 use Rattle.closure.proofs.settling.settle.Goals as goal

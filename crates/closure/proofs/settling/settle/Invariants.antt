@@ -1,4 +1,4 @@
-use Rattle.std.proofs.Common.{◌≡◌, ◌≤◌, length, vec_len, vec_capacity}
+use Rattle.std.proofs.Common.{◌≡◌, length, vec_len, vec_capacity}
 use Rattle.keepers.specs.Meaning.{class_count}
 use Rattle.indexes.specs.Meaning.{held}
 use Rattle.closure.specs.Working.{Inward, Progress}

@@ -1,6 +1,6 @@
-use Rattle.std.proofs.Common.{◌≡◌, ℕ, ◌+◌, ◌<◌, ◌≤◌, List, length, get_or, sym, ap, ◌∙◌, subst, arith}
+use Rattle.std.proofs.Common.{◌≡◌, ℕ, ◌+◌, List, length, sym, ap, ◌∙◌, subst, arith}
 use Rattle.std.proofs.lemmas.List.Elements.{All-get_or}
-use Rattle.keepers.specs.Meaning.{rep, Within, Upto}
+use Rattle.keepers.specs.Meaning.{rep, Within}
 use Rattle.indexes.specs.Meaning.{held}
 use Rattle.closure.specs.Working.{Fed, Inward}
 use Rattle.closure.proofs.settling.sweep.Goals.{then-notes-i+in-Posted, else-notes-i}

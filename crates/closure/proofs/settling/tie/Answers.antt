@@ -1,9 +1,9 @@
-use Rattle.std.proofs.Common.{◌≡◌, ℕ, ◌+◌, ◌<◌, ◌≤◌, List, length, vec_len, sym, ap, ◌∙◌, subst, arith}
+use Rattle.std.proofs.Common.{◌≡◌, ℕ, ◌+◌, List, vec_len, sym, ◌∙◌, subst, arith}
 use Rattle.std.proofs.lemmas.Bool.{eqb-false}
 use Rattle.keepers.specs.Meaning.{Settled, Unites}
 use Rattle.closure.specs.declared.journal.Join.{Join}
-use Rattle.closure.specs.Working.{Ready, Apart, Progress}
-use Rattle.closure.proofs.Counts.{joined_progress, progress_then, progress_booked, progress_ready, apart_room, no_progress}
+use Rattle.closure.specs.Working.{Apart, Progress}
+use Rattle.closure.proofs.Counts.{joined_progress, progress_then, progress_booked, progress_ready, apart_room}
 use Rattle.closure.proofs.settling.tie.Goals as goal
 
 -- one join, whose journal is then one longer
