@@ -1,6 +1,7 @@
 -- What the checks of numbers say. Assumes nothing.
 use Rattle.std.proofs.Common.{◌≡◌, ℕ, ◌+◌, ◌<◌, ◌≤◌, Bool, true, false, cond, ◌||◌, eqb, ltb, leb, List, [], ◌∷◌, length, None, All, sym, refl, ap, ◌∙◌, arith}
 use Rattle.std.proofs.lemmas.Bool.{or_parts, or_from, eqb-false, ltb-false, cond-false, le-ltb, lt-leb}
+use Rattle.std.proofs.lemmas.List.Elements.{All-nil, All-cons}
 use Rattle.keepers.specs.Meaning.{Upto}
 use Rattle.sheets.specs.Checks.{absent, any_absent, add_check}
 
@@ -12,10 +13,10 @@ present n p h =
     (omega arith, omega arith)
 
 pub all_present : (n : ℕ) (ps : List ℕ) → any_absent n ps ≡ false → All (Upto n) ps
-all_present n [] h = tt
+all_present n [] h = All-nil (Upto n)
 all_present n (p ∷ ps) h =
     let e = or_parts (absent n p) (any_absent n ps) h in
-    (present n p e.0, all_present n ps e.1)
+    All-cons (Upto n) p ps (present n p e.0) (all_present n ps e.1)
 
 pub both_present : (n a b : ℕ) → (absent n a || absent n b) ≡ false → Upto n a × Upto n b
 both_present n a b h = let e = or_parts (absent n a) (absent n b) h in (present n a e.0, present n b e.1)

@@ -10,7 +10,7 @@ use Rattle.sheets.specs.declared.open.Open.{Open}
 
 -- the keeper counts the pictures, and has room for them; the index leads to pictures of the sheet; the journal has at most as many joins as classes
 -- were lost; and the entries speak of pictures of the sheet
-pub record Whole {X Y : Type 0} (kept : Kept X) (found : Found Y) (o : Open X Y) : Type 0 where
+pub record Whole {X Y : Type 0} (kept : Kept X) (found : Found Y) (o : Open X Y kept found) : Type 0 where
   pub ready : Ready (kept.reps o.keeper) (vec_items o.pictures)
   pub room : vec_len o.pictures ≤ kept.limit
   pub inward : Inward (vec_len o.pictures) (held (found.leads o.index))
@@ -18,18 +18,18 @@ pub record Whole {X Y : Type 0} (kept : Kept X) (found : Found Y) (o : Open X Y)
   pub placed : All (Placed (vec_len o.pictures)) (vec_items o.entries)
 
 -- two sheets mean the same: the same representatives, signatures, pictures and entries
-pub record Alike {X Y : Type 0} (kept : Kept X) (found : Found Y) (o o' : Open X Y) : Type 0 where
+pub record Alike {X Y : Type 0} (kept : Kept X) (found : Found Y) (o o' : Open X Y kept found) : Type 0 where
   pub classes : kept.reps o'.keeper ≡ kept.reps o.keeper
   pub leads : found.leads o'.index ≡ found.leads o.index
   pub pictures : vec_items o'.pictures ≡ vec_items o.pictures
   pub entries : vec_items o'.entries ≡ vec_items o.entries
 
 -- a sheet that was just put together: it has no picture and no entry
-pub record Fresh {X Y : Type 0} (kept : Kept X) (found : Found Y) (o : Open X Y) : Type 0 where
+pub record Fresh {X Y : Type 0} (kept : Kept X) (found : Found Y) (o : Open X Y kept found) : Type 0 where
   pub whole : Whole kept found o
   pub no_picture : vec_items o.pictures ≡ []
   pub no_entry : vec_items o.entries ≡ []
 
 -- n is the number of classes that the sheet's keeper has
-abbrev pub Counted : {X Y : Type 0} → Kept X → Open X Y → ℕ → Type 0
+abbrev pub Counted : {X Y : Type 0} (kept : Kept X) {found : Found Y} → Open X Y kept found → ℕ → Type 0
 Counted kept o n = n ≡ class_count (kept.reps o.keeper)

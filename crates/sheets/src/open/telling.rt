@@ -15,9 +15,9 @@ use keepers::Keeper;
 
 // Whether an entry is a `differ` entry whose two pictures are in one class.
 fn is_broken<K: Keeper>(k: &mut K, entry: &Entry) -> bool
-    requires { Placed (length (reps k.old)) entry.now }
-    ensures answer { result ≡ broken (reps k.old) entry.now }
-    ensures same { reps k.new ≡ reps k.old }
+    requires { Placed (length (K.reps k.old)) entry.now }
+    ensures answer { result ≡ broken (K.reps k.old) entry.now }
+    ensures same { K.reps k.new ≡ K.reps k.old }
 {
     match entry {
         Entry::Same(_, _) => false,
@@ -27,9 +27,9 @@ fn is_broken<K: Keeper>(k: &mut K, entry: &Entry) -> bool
 
 // The place of the first broken entry.
 pub fn first_broken<K: Keeper>(k: &mut K, entries: &[Entry]) -> Option<usize>
-    requires { All (Placed (length (reps k.old))) entries.now }
-    ensures answer { FirstBroken (reps k.old) entries.now result }
-    ensures same { reps k.new ≡ reps k.old }
+    requires { All (Placed (length (K.reps k.old))) entries.now }
+    ensures answer { FirstBroken (K.reps k.old) entries.now result }
+    ensures same { K.reps k.new ≡ K.reps k.old }
 {
     for i in 0..entries.len() {
         if is_broken(k, &entries[i]) {
@@ -49,14 +49,14 @@ fn tell<K: Keeper, I: Index>(
     entry: &Entry,
     number: u16,
 )
-    requires ready { Ready (reps k.old) pictures.now }
+    requires ready { Ready (K.reps k.old) pictures.now }
     requires sized { length notes.old ≡ length pictures.now }
-    requires inward { Inward (length pictures.now) (held (leads index.old)) }
-    requires booked { Booked (reps k.old) (vec_len journal.old) }
+    requires inward { Inward (length pictures.now) (held (I.leads index.old)) }
+    requires booked { Booked (K.reps k.old) (vec_len journal.old) }
     requires room { 1024 ≤ vec_capacity journal.old }
     requires placed { Placed (length pictures.now) entry.now }
-    ensures progress { Progress (reps k.old) (reps k.new) (vec_len journal.old) (vec_len journal.new) }
-    ensures inward { Inward (length pictures.now) (held (leads index.new)) }
+    ensures progress { Progress (K.reps k.old) (K.reps k.new) (vec_len journal.old) (vec_len journal.new) }
+    ensures inward { Inward (length pictures.now) (held (I.leads index.new)) }
     ensures space { vec_capacity journal.new ≡ vec_capacity journal.old }
 {
     match entry {
@@ -85,15 +85,15 @@ fn retell<K: Keeper, I: Index>(
     journal: &mut Vec<Join>,
     entries: &[Entry],
 )
-    requires ready { Ready (reps k.old) pictures.now }
+    requires ready { Ready (K.reps k.old) pictures.now }
     requires sized { length notes.old ≡ length pictures.now }
-    requires inward { Inward (length pictures.now) (held (leads index.old)) }
-    requires booked { Booked (reps k.old) (vec_len journal.old) }
+    requires inward { Inward (length pictures.now) (held (I.leads index.old)) }
+    requires booked { Booked (K.reps k.old) (vec_len journal.old) }
     requires room { 1024 ≤ vec_capacity journal.old }
     requires placed { All (Placed (length pictures.now)) entries.now }
     requires few { length entries.now ≤ 2048 }
-    ensures progress { Progress (reps k.old) (reps k.new) (vec_len journal.old) (vec_len journal.new) }
-    ensures inward { Inward (length pictures.now) (held (leads index.new)) }
+    ensures progress { Progress (K.reps k.old) (K.reps k.new) (vec_len journal.old) (vec_len journal.new) }
+    ensures inward { Inward (length pictures.now) (held (I.leads index.new)) }
     ensures space { vec_capacity journal.new ≡ vec_capacity journal.old }
 {
     for i in 0..entries.len() {
@@ -118,15 +118,15 @@ pub fn rebuild<K: Keeper, I: Index>(
     journal: &mut Vec<Join>,
     entries: &[Entry],
 )
-    requires ready { Ready (reps k.old) pictures.now }
-    requires limit { length pictures.now ≤ limit }
+    requires ready { Ready (K.reps k.old) pictures.now }
+    requires limit { length pictures.now ≤ K.limit }
     requires sized { length notes.old ≡ length pictures.now }
     requires room { 1024 ≤ vec_capacity journal.old }
     requires placed { All (Placed (length pictures.now)) entries.now }
     requires few { length entries.now ≤ 2048 }
-    ensures ready { Ready (reps k.new) pictures.now }
-    ensures inward { Inward (length pictures.now) (held (leads index.new)) }
-    ensures booked { Booked (reps k.new) (vec_len journal.new) }
+    ensures ready { Ready (K.reps k.new) pictures.now }
+    ensures inward { Inward (length pictures.now) (held (I.leads index.new)) }
+    ensures booked { Booked (K.reps k.new) (vec_len journal.new) }
     ensures space { vec_capacity journal.new ≡ vec_capacity journal.old }
 {
     restart(k, index, pictures, notes, journal);
