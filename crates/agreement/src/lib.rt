@@ -1,4 +1,5 @@
 // Tests that every keeper and every index answers one table of calls alike.
+#![tactic(auto)]
 
 // the table of calls on keepers
 #[cfg(test)]

@@ -1,4 +1,6 @@
 // Runs lists at the limits of the rules, and prints of each record how many lines it has and what its first and last lines are.
+#![tactic(auto)]
+
 use indexes::Chained;
 use keepers::Links;
 use lists::print_record;

@@ -1,7 +1,7 @@
 -- The first line of a text, and those that follow. Assumes nothing.
-use Rattle.std.proofs.Common.{◌≡◌, ℕ, ◌+◌, ◌-◌, ◌<◌, ◌≤◌, cond, List, [], ◌∷◌, ◌++◌, length, get_or, take, drop, All, sym, refl, ap, ◌∙◌, subst, arith, ne_eqb}
+use Rattle.std.proofs.Common.{◌≡◌, ℕ, ◌+◌, ◌<◌, ◌≤◌, cond, List, [], ◌∷◌, ◌++◌, length, get_or, take, drop, All, sym, refl, ap, ◌∙◌, subst, arith, ne_eqb}
 use Rattle.std.proofs.lemmas.List.{take-append-drop, drop_more, get_or-take, length-take-le, take_all}
-use Rattle.std.proofs.lemmas.List.Elements.{All-from_get_or}
+use Rattle.std.proofs.lemmas.List.Elements.{All-head, All-tail, All-from_get_or}
 use Rattle.lists.specs.Printouts.{lines, glue}
 
 abbrev Inner : ℕ → Type 0
@@ -12,11 +12,11 @@ inner_first b bs h = ap (λ t. cond t ([] ∷ lines bs) (glue b (lines bs))) (ne
 
 pub lines_cut : (pre rest : List ℕ) → All Inner pre → lines (pre ++ (10 ∷ rest)) ≡ pre ∷ lines rest
 lines_cut [] rest h = refl
-lines_cut (b ∷ pre) rest h = inner_first b (pre ++ (10 ∷ rest)) h.0 ∙ ap (glue b) (lines_cut pre rest h.1)
+lines_cut (b ∷ pre) rest h = inner_first b (pre ++ (10 ∷ rest)) (All-head Inner b pre h) ∙ ap (glue b) (lines_cut pre rest (All-tail Inner b pre h))
 
 pub lines_last : (b : ℕ) (pre : List ℕ) → All Inner (b ∷ pre) → lines (b ∷ pre) ≡ (b ∷ pre) ∷ []
-lines_last b [] h = inner_first b [] h.0
-lines_last b (p ∷ pre) h = inner_first b (p ∷ pre) h.0 ∙ ap (glue b) (lines_last p pre h.1)
+lines_last b [] h = inner_first b [] (All-head Inner b [] h)
+lines_last b (p ∷ pre) h = inner_first b (p ∷ pre) (All-head Inner b (p ∷ pre) h) ∙ ap (glue b) (lines_last p pre (All-tail Inner b (p ∷ pre) h))
 
 inner_take : (text : List ℕ) (i : ℕ) → i ≤ length text → ((k : ℕ) → k < i → get_or text k 0 ≡ 10 → ⊥) → All Inner (take i text)
 inner_take text i fit h = All-from_get_or Inner (take i text) 0 (λ k l. let lt : k < i = omega (arith, length-take-le i text fit) in subst Inner (sym (get_or-take i text k 0 lt)) (h k lt))

@@ -1,6 +1,7 @@
 -- The numerals that were read so far begin every reading of the line. Assumes nothing.
-use Rattle.std.proofs.Common.{◌≡◌, ℕ, ◌+◌, ◌-◌, ◌*◌, ◌≤◌, ◌⊎◌, List, [], ◌∷◌, ◌++◌, length, get_or, All, sym, refl, ap, ◌∙◌, subst, inl, inr, arith}
+use Rattle.std.proofs.Common.{◌≡◌, ℕ, ◌+◌, ◌*◌, ◌≤◌, ◌⊎◌, List, [], ◌∷◌, ◌++◌, length, get_or, All, sym, refl, ap, ◌∙◌, subst, inl, inr, arith}
 use Rattle.std.proofs.lemmas.List.{append_assoc, append-nil, length-append}
+use Rattle.std.proofs.lemmas.List.Elements.{All-head, All-tail}
 use Rattle.lists.specs.Form.{Digit, Numeral, spaced}
 use Rattle.lists.specs.Numerals.{Bare, Closed}
 
@@ -19,7 +20,7 @@ spaced_push xs d rest = ap (λ t. t ++ rest) (spaced_append xs (d ∷ [])) ∙ (
 -- a numeral and its space take six bytes at most
 pub length-spaced : (ds : List (List ℕ)) → All Numeral ds → length (spaced ds) ≤ 6 * length ds
 length-spaced [] h = omega arith
-length-spaced (d ∷ ds) h = omega (arith, length-spaced ds h.1, length-append d (spaced ds), h.0.short)
+length-spaced (d ∷ ds) h = omega (arith, length-spaced ds (All-tail Numeral d ds h), length-append d (spaced ds), (All-head Numeral d ds h).short)
 
 -- of two lists that begin one list, one begins the other
 pub overlap : (d n R S : List ℕ) → d ++ R ≡ n ++ S → ((e : List ℕ) × (n ≡ d ++ e) × (R ≡ e ++ S)) ⊎ ((x : ℕ) × (e : List ℕ) × (d ≡ n ++ (x ∷ e)) × (S ≡ (x ∷ e) ++ R))
@@ -31,8 +32,8 @@ overlap (x ∷ d) (y ∷ n) R S q =
     elim (overlap d n R S tl) [ inl h ↦ inl (h.0, (cc (h.1, hd)), h.2) | inr h ↦ inr (h.0, h.1, (cc (h.2, hd)), h.3) ]
 
 all_last : (n : List ℕ) (x : ℕ) (e : List ℕ) → All Digit (n ++ (x ∷ e)) → Digit x
-all_last [] x e h = h.0
-all_last (y ∷ n) x e h = all_last n x e h.1
+all_last [] x e h = All-head Digit x e h
+all_last (y ∷ n) x e h = all_last n x e (All-tail Digit y (n ++ (x ∷ e)) h)
 
 -- what follows a numeral in a line
 abbrev pub Ends : List ℕ → Type 0
@@ -77,6 +78,6 @@ peel [] ns R hd hn run q = (ns, refl, q)
 peel (d ∷ done) [] R hd hn run q = absurd (let z : ◌≡◌ {A = ℕ} 0 1 = cc in omega arith)
 peel (d ∷ done) (n ∷ ns) R hd hn run q =
     let tl : (d ++ spaced done) ++ R ≡ n ++ spaced ns = cc in
-    let two = same_numeral d (spaced done ++ R) n (spaced ns) hd.0 run.0 hn.0 (ends_spaced ns) (sym (append_assoc d (spaced done) R) ∙ tl) in
-    let more = peel done ns R hd.1 hn.1 run.1 two.1 in
+    let two = same_numeral d (spaced done ++ R) n (spaced ns) (All-head Numeral d done hd) run.0 (All-head Numeral n ns hn) (ends_spaced ns) (sym (append_assoc d (spaced done) R) ∙ tl) in
+    let more = peel done ns R (All-tail Numeral d done hd) (All-tail Numeral n ns hn) run.1 two.1 in
     (more.0, (cc (two.0, more.1)), more.2)

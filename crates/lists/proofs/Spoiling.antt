@@ -1,7 +1,7 @@
 -- The place from which a line has not the form. Assumes nothing.
 use Rattle.std.proofs.Common.{◌≡◌, ℕ, zero, suc, ◌+◌, ◌-◌, ◌<◌, ◌≤◌, List, [], ◌∷◌, ◌++◌, length, take, replicate, All, sym, refl, ap, ◌∙◌, subst, inl, arith}
 use Rattle.std.proofs.lemmas.List.{append_assoc, append-nil, length-append, length-replicate, take_at, length_push}
-use Rattle.std.proofs.lemmas.List.Elements.{All-append}
+use Rattle.std.proofs.lemmas.List.Elements.{All-nil, All-cons, All-head, All-tail, All-append}
 use Rattle.lists.specs.Form.{Digit, Numeral, spaced, Takes, Valid, Viable, Spoiled}
 use Rattle.lists.specs.Numerals.{Bare, Bounds}
 use Rattle.lists.proofs.Peeling.{Runs, spaced_append, peel}
@@ -30,11 +30,11 @@ spoiled_at t pre (x ∷ r) q v stuck early =
 
 -- the numeral 0
 zero_numeral : Numeral (48 ∷ [])
-zero_numeral = record { digits = ((omega arith, omega arith), tt); some = omega arith; short = omega arith; plain = λ _. refl }
+zero_numeral = record { digits = All-cons Digit 48 [] (omega arith, omega arith) (All-nil Digit); some = omega arith; short = omega arith; plain = λ _. refl }
 
 zeros : (k : ℕ) → All Numeral (replicate k (48 ∷ []))
-zeros zero = tt
-zeros (suc k) = (zero_numeral, zeros k)
+zeros zero = All-nil Numeral
+zeros (suc k) = All-cons Numeral (48 ∷ []) (replicate k (48 ∷ [])) zero_numeral (zeros k)
 
 -- a line that is filled up with zeros is valid
 padded : (c : ℕ) (done : List (List ℕ)) (k : ℕ) → All Numeral done → Takes c (length done + k) → Valid (c ∷ (spaced done ++ spaced (replicate k (48 ∷ []))))
@@ -84,11 +84,11 @@ not_empty (x ∷ m) s h q = let z : ◌≡◌ {A = ℕ} 0 1 = cc in omega arith
 
 digit_first : (m s : List ℕ) (x : ℕ) (r : List ℕ) → Numeral m → x ∷ r ≡ m ++ s → Digit x
 digit_first [] s x r h q = absurd (omega (arith, h.some))
-digit_first (y ∷ m) s x r h q = let z : y ≡ x = cc in subst Digit z h.digits.0
+digit_first (y ∷ m) s x r h q = let z : y ≡ x = cc in subst Digit z (All-head Digit y m h.digits)
 
 all_next : (done : List (List ℕ)) (m : List ℕ) (ms : List (List ℕ)) → All Numeral (done ++ (m ∷ ms)) → Numeral m
-all_next [] m ms h = h.0
-all_next (d ∷ done) m ms h = all_next done m ms h.1
+all_next [] m ms h = All-head Numeral m ms h
+all_next (d ∷ done) m ms h = all_next done m ms (All-tail Numeral d (done ++ (m ∷ ms)) h)
 
 module _ (c least most : ℕ) (b : Bounds c least most) (done : List (List ℕ)) (hd : All Numeral done) where
   -- after a numeral, neither a space that may come nor an end that may
@@ -144,7 +144,7 @@ module _ (c least most : ℕ) (b : Bounds c least most) (done : List (List ℕ))
 
 -- the line does not begin with a letter that takes any number
 pub spoiled_letter : (t : List ℕ) → ((x : ℕ) (r : List ℕ) (n : ℕ) → t ≡ x ∷ r → Takes x n → ⊥) → Spoiled t 1
-spoiled_letter t none = spoiled_at t [] t refl (112 ∷ spaced ((48 ∷ []) ∷ []), padded 112 [] 1 tt (inl (refl, omega arith, omega arith))) never ends
+spoiled_letter t none = spoiled_at t [] t refl (112 ∷ spaced ((48 ∷ []) ∷ []), padded 112 [] 1 (All-nil Numeral) (inl (refl, omega arith, omega arith))) never ends
   where
     never : (x : ℕ) (r : List ℕ) → t ≡ x ∷ r → Viable (x ∷ []) → ⊥
     never x r e (r', (c, ns, f)) = let z : c ≡ x = cc f.spells in none x r (length ns) e (subst (λ y. Takes y (length ns)) z f.takes)

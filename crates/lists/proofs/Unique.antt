@@ -2,6 +2,7 @@
 use Rattle.std.proofs.Common.{◌≡◌, ℕ, ◌+◌, ◌-◌, ◌<◌, ◌≤◌, ◌⊎◌, List, [], ◌∷◌, ◌++◌, map, length, take, drop, All, sym, refl, ap, ◌∙◌, subst, inl, inr, arith}
 use Rattle.std.proofs.lemmas.List.{append_assoc, append-nil, take-append-drop, take-take}
 use Rattle.std.proofs.lemmas.Bool.{cases_order, cases_lt}
+use Rattle.std.proofs.lemmas.List.Elements.{All-head, All-tail}
 use Rattle.lists.specs.Form.{value, spaced, Formed, Valid, Viable, Spoiled, Narrow, TooWide, Says, Misread, OneReading}
 use Rattle.lists.specs.Numerals.{Bare}
 use Rattle.lists.proofs.Peeling.{Runs, peel}
@@ -56,12 +57,12 @@ one_place bs p q s t = go (cases_order p q)
 
 first_wide : (b b' : List (List ℕ)) (w w' : List ℕ) (a a' : List (List ℕ)) → b ++ (w ∷ a) ≡ b' ++ (w' ∷ a') → All Narrow b → 65535 < value w → All Narrow b' → 65535 < value w' → b ≡ b'
 first_wide [] [] w w' a a' e n l n' l' = refl
-first_wide [] (x ∷ b') w w' a a' e n l n' l' = absurd (let z : x ≡ w = cc (e) in let k : value w ≤ 65535 = subst Narrow z n'.0 in omega arith)
-first_wide (x ∷ b) [] w w' a a' e n l n' l' = absurd (let z : x ≡ w' = cc (e) in let k : value w' ≤ 65535 = subst Narrow z n.0 in omega arith)
+first_wide [] (x ∷ b') w w' a a' e n l n' l' = absurd (let z : x ≡ w = cc (e) in let k : value w ≤ 65535 = subst Narrow z (All-head Narrow x b' n') in omega arith)
+first_wide (x ∷ b) [] w w' a a' e n l n' l' = absurd (let z : x ≡ w' = cc (e) in let k : value w' ≤ 65535 = subst Narrow z (All-head Narrow x b n) in omega arith)
 first_wide (x ∷ b) (y ∷ b') w w' a a' e n l n' l' =
     let hd : x ≡ y = cc (e) in
     let tl : b ++ (w ∷ a) ≡ b' ++ (w' ∷ a') = cc (e) in
-    let r = first_wide b b' w w' a a' tl n.1 l n'.1 l' in
+    let r = first_wide b b' w w' a a' tl (All-tail Narrow x b n) l (All-tail Narrow y b' n') l' in
     cc (hd, r)
 
 one_wide : (bs : List ℕ) (p q : ℕ) → TooWide bs p → TooWide bs q → p ≡ q
@@ -74,8 +75,8 @@ wide_valid : (bs : List ℕ) (p : ℕ) → TooWide bs p → Valid bs
 wide_valid bs p s = (s.letter, s.before ++ (s.wide ∷ s.after), s.line)
 
 all_wide : (b : List (List ℕ)) (w : List ℕ) (a : List (List ℕ)) → All Narrow (b ++ (w ∷ a)) → value w ≤ 65535
-all_wide [] w a h = h.0
-all_wide (x ∷ b) w a h = all_wide b w a h.1
+all_wide [] w a h = All-head Narrow w a h
+all_wide (x ∷ b) w a h = all_wide b w a (All-tail Narrow x (b ++ (w ∷ a)) h)
 
 one_misread : (bs : List ℕ) (n n' p p' : ℕ) → Misread bs n p → Misread bs n' p' → (n ≡ n') × (p ≡ p')
 one_misread bs n n' p p' (inl (e, s)) (inl (f, t)) = (e ∙ sym f, one_place bs p p' s t)

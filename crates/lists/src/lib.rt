@@ -1,4 +1,5 @@
 // Lists: a text of lines, each of which asks for a call on a sheet, and the record of what the calls answer.
+#![tactic(auto)]
 
 // how a line is refused
 pub mod fault;

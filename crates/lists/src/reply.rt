@@ -3,6 +3,7 @@ ghost use Rattle.lists.specs.Replies.{answer_text, reply_text};
 
 use crate::fault::LineFault;
 use sheets::{Added, Joined};
+use std::alloc::AllocError;
 use std::fmt;
 
 // What the call of a line answers.
@@ -33,7 +34,7 @@ impl fmt::Display for Answer {
 }
 
 // Adds the line of a reply.
-pub(crate) fn say(out: &mut String, reply: Result<Answer, LineFault>) -> fmt::Result
+pub(crate) fn say(out: &mut String, reply: Result<Answer, LineFault>) -> Result<(), AllocError>
     ensures { OnOk result (string_bytes out.new ≡ string_bytes out.old ++ (reply_text reply ++ (10 ∷ []))) }
 {
     match reply {

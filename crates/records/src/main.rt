@@ -1,5 +1,7 @@
 // Prints the record of each list that is named on the command line, made with one keeper and one index, and whether the other keepers and indexes make
 // the same.
+#![tactic(auto)]
+
 use indexes::{Chained, Plain};
 use keepers::{Links, Relabel};
 use lists::print_record;

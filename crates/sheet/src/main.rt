@@ -1,4 +1,6 @@
 // Reads a list from standard input, and prints its record.
+#![tactic(auto)]
+
 use indexes::Chained;
 use keepers::Links;
 use lists::print_record;

@@ -1,5 +1,5 @@
 -- The broken entry, by the representatives that the keeper has. Assumes nothing.
-use Rattle.std.specs.Prelude.{◌≡◌, ℕ, ◌+◌, ◌<◌, Bool, true, false, List, length, Some, None, Option, ◌==◌, slice_index_or}
+use Rattle.std.specs.Prelude.{◌≡◌, ℕ, ◌<◌, Bool, true, false, List, length, Some, None, Option, ◌==◌, slice_index_or}
 use Rattle.keepers.specs.Meaning.{rep}
 use Rattle.sheets.specs.declared.entry.Entry.{Entry}
 use Rattle.sheets.specs.declared.entry.Entry.TheVariants.{Same, Differ}

@@ -1,6 +1,5 @@
 -- The refusals of a sheet, by number and detail. Assumes nothing.
 use Rattle.std.specs.Prelude.{ℕ, Some, None, Ok, Err, Option, Result}
-use Rattle.sheets.specs.declared.fault.Clash.{Clash}
 use Rattle.sheets.specs.declared.fault.SheetFault.{SheetFault}
 use Rattle.sheets.specs.declared.fault.SheetFault.TheVariants.{FewCells, NoPicture, Full, Contradiction, Inputs}
 

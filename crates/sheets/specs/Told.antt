@@ -5,7 +5,6 @@ use Rattle.closure.specs.declared.picture.Picture.{Picture}
 use Rattle.sheets.specs.declared.answer.Added.{Added}
 use Rattle.sheets.specs.declared.entry.Entry.{Entry}
 use Rattle.sheets.specs.declared.step.Step.{Step}
-use Rattle.sheets.specs.declared.fault.Clash.{Clash}
 use Rattle.sheets.specs.declared.fault.SheetFault.{SheetFault}
 use Rattle.sheets.specs.declared.fault.SheetFault.TheVariants.{FewCells, NoPicture, Full, Contradiction, Inputs}
 

@@ -1,4 +1,5 @@
 // The sheet: pictures and entries, the classes that they force, and the calls by which a host tells it and asks it.
+#![tactic(auto)]
 
 // what the calls answer
 pub mod answer;

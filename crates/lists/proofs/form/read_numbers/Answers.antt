@@ -2,7 +2,7 @@ use Rattle.std.proofs.Common.{◌≡◌, ◌-◌, ◌∷◌, length, take, drop,
 use Rattle.lists.proofs.Sofar.{split_first, sofar_narrow, sofar_first, sofar_later, ends_gap, ends_space, ends_wide, ends_well, moved}
 use Rattle.std.proofs.lemmas.Result.{err_from_is_err_and}
 use Rattle.lists.proofs.form.read_numbers.Goals as goal
-use Rattle.lists.proofs.form.read_numbers.Goals.{else-loop-len-test, then-loop-len-test+then-rest-lt1, then-loop-len-test+else-rest-lt1+in_default·, then-value-le65535, else-value-le65535+then-is-ok, else-value-le65535+else-is-ok, then-not-is_empty-via-then-not-is_empty, then-not-is_empty-via-else-not-is_empty+then-len-least}
+use Rattle.lists.proofs.form.read_numbers.Goals.{else-loop-len-test, then-loop-len-test+then-rest-lt1, then-loop-len-test+else-rest-lt1+in_default-1, then-value-le65535, else-value-le65535+then-is_ok, else-value-le65535+else-is_ok, then-not-is_empty-via-then-not-is_empty, then-not-is_empty-via-else-not-is_empty+then-len-least}
 
 pub returns-in_err-value : goal.returns-in_err-value
 returns-in_err-value c =
@@ -24,8 +24,8 @@ loop-len-preserved c =
     let v = c.in_ok-value.value in (
       elim c.if-value-le65535.branch [
         | then-value-le65535 w ↦ moved (sofar_narrow c.args.text.now r.rest.now more nx r.len r.at v r.cells r.fits r.invariant.0 e t w.if-value-le65535.true (omega arith)) w.cells-is w.fits-is
-        | else-value-le65535+then-is-ok w ↦ moved (sofar_first c.args.text.now r.rest.now more nx r.len r.at v r.cells r.fits r.invariant.0 e t w.if-value-le65535.false (search rules)) w.cells-is w.fits-is
-        | else-value-le65535+else-is-ok w ↦ moved (sofar_later c.args.text.now r.rest.now more nx r.len r.at v r.cells r.fits r.invariant.0 e t (search rules)) w.cells-is w.fits-is
+        | else-value-le65535+then-is_ok w ↦ moved (sofar_first c.args.text.now r.rest.now more nx r.len r.at v r.cells r.fits r.invariant.0 e t w.if-value-le65535.false (search rules)) w.cells-is w.fits-is
+        | else-value-le65535+else-is_ok w ↦ moved (sofar_later c.args.text.now r.rest.now more nx r.len r.at v r.cells r.fits r.invariant.0 e t (search rules)) w.cells-is w.fits-is
       ],
       search rules,
       search rules,
@@ -38,7 +38,7 @@ returns-then-not-is_empty c =
     let r = c.loop-len in
     ends_gap c.args.letter _ _ b.0 c.args.text.now r.rest.now r.len r.at r.cells r.fits r.invariant.0 r.invariant.1
     (λ z. elim c.then-not-is_empty.branch [ then-not-is_empty-via-then-not-is_empty w ↦ search rules | then-not-is_empty-via-else-not-is_empty+then-len-least w ↦ w.if-len-least.true ])
-    (λ z y. elim c.loop-len-test.branch [ else-loop-len-test w ↦ search rules | then-loop-len-test+then-rest-lt1 w ↦ search rules | then-loop-len-test+else-rest-lt1+in_default· w ↦ search rules ])
+    (λ z y. elim c.loop-len-test.branch [ else-loop-len-test w ↦ search rules | then-loop-len-test+then-rest-lt1 w ↦ search rules | then-loop-len-test+else-rest-lt1+in_default-1 w ↦ search rules ])
 
 pub returns-in_err-fits : goal.returns-in_err-fits
 returns-in_err-fits c =

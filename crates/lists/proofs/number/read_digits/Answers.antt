@@ -1,7 +1,7 @@
 use Rattle.std.proofs.Common.{inl, inr, arith, rules}
 use Rattle.lists.proofs.Digits.{one_more, stopped, bare_from, took_lens}
 use Rattle.lists.proofs.number.read_digits.Goals as goal
-use Rattle.lists.proofs.number.read_digits.Goals.{else-loop-test, then-loop-test+in_default, then-loop-test+in_default·2, then-loop-test+in_default·3}
+use Rattle.lists.proofs.number.read_digits.Goals.{else-loop-test, then-loop-test+in_default, then-loop-test+in_default-2, then-loop-test+in_default-3}
 
 pub loop-preserved : goal.loop-preserved
 loop-preserved c =
@@ -16,7 +16,7 @@ returns c =
     (elim c.loop-test.branch [
       | else-loop-test w ↦ inl (search rules)
       | then-loop-test+in_default w ↦ inr (bare_from c.loop.rest.now (λ s d. search rules))
-      | then-loop-test+in_default·2 w ↦ inr (bare_from c.loop.rest.now (λ s d. search rules))
-      | then-loop-test+in_default·3 w ↦ inr (bare_from c.loop.rest.now (λ s d. search rules))
+      | then-loop-test+in_default-2 w ↦ inr (bare_from c.loop.rest.now (λ s d. search rules))
+      | then-loop-test+in_default-3 w ↦ inr (bare_from c.loop.rest.now (λ s d. search rules))
     ]) in
     record { reads = t; lens = took_lens c.args.text.now c.loop.value c.loop.rest.now t }

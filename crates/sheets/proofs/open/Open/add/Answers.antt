@@ -1,7 +1,6 @@
-use Rattle.std.proofs.Common.{◌≡◌, ℕ, ◌+◌, ◌<◌, ◌≤◌, false, ◌≢◌, List, [], ◌∷◌, ◌++◌, length, vec_items, vec_len, All, sym, refl, ap, ◌∙◌, subst, arith}
+use Rattle.std.proofs.Common.{◌≡◌, ℕ, ◌+◌, ◌<◌, false, ◌≢◌, List, [], ◌∷◌, ◌++◌, length, vec_items, vec_len, All, sym, refl, ap, ◌∙◌, subst, arith}
 use Rattle.std.proofs.lemmas.List.{length_push}
 use Rattle.keepers.specs.Meaning.{Upto}
-use Rattle.indexes.specs.Rows.{cells_of}
 use Rattle.indexes.specs.Meaning.{held}
 use Rattle.closure.specs.declared.picture.Picture.{Picture}
 use Rattle.closure.specs.Working.{Ready, Fed, Inward, Booked, Lowest}

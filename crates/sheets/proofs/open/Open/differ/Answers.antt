@@ -1,4 +1,4 @@
-use Rattle.std.proofs.Common.{◌≡◌, ℕ, ◌+◌, ◌≤◌, List, length, vec_items, vec_len, All, sym, refl, ap, ◌∙◌, subst, ap₂}
+use Rattle.std.proofs.Common.{ℕ, ◌+◌, List, length, vec_items, vec_len, All, sym, refl, ap, ◌∙◌, subst, ap₂}
 use Rattle.std.proofs.lemmas.List.Elements.{All-push}
 use Rattle.closure.specs.Working.{Ready, Booked}
 use Rattle.sheets.specs.declared.entry.Entry.TheVariants.{Differ}

@@ -1,6 +1,5 @@
-use Rattle.std.proofs.Common.{◌≡◌, ℕ, ◌≤◌, List, length, take, vec_items, vec_len, sym, refl, ap, ◌∙◌, subst, arith, length-take}
+use Rattle.std.proofs.Common.{ℕ, refl, subst, arith, length-take}
 use Rattle.indexes.specs.Meaning.{held}
-use Rattle.closure.specs.declared.picture.Picture.{Picture}
 use Rattle.closure.specs.Working.{Ready, Inward}
 use Rattle.sheets.proofs.open.Open.withdraw.Goals as goal
 

@@ -1,4 +1,4 @@
-use Rattle.std.proofs.Common.{◌≡◌, ℕ, suc, ◌+◌, ◌<◌, ◌≤◌, Bool, true, false, ◌||◌, List, [], ◌∷◌, length, get_or, drop, sym, refl, ap, ◌∙◌, add-one, arith, drop-cons}
+use Rattle.std.proofs.Common.{◌≡◌, ℕ, ◌+◌, ◌<◌, Bool, ◌||◌, List, length, get_or, drop, sym, ap, ◌∙◌, add-one, arith, drop-cons}
 use lib.Seq.{drop-length}
 use Rattle.sheets.specs.Checks.{any_absent, absent}
 use Rattle.sheets.proofs.open.checks.any_missing.Goals as goal

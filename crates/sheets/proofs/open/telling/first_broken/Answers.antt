@@ -1,10 +1,9 @@
-use Rattle.std.proofs.Common.{◌≡◌, ℕ, ◌<◌, true, false, List, length, get_or, sym, ap, ◌∙◌, subst, inl, inr, arith}
+use Rattle.std.proofs.Common.{ℕ, List, length, get_or, sym, ap, ◌∙◌, subst, inl, inr, arith}
 use Rattle.std.proofs.lemmas.List.Elements.{All-get_or}
 use Rattle.std.proofs.lemmas.List.{get_or_default}
 use Rattle.std.proofs.lemmas.Bool.{cases_eq}
-use Rattle.sheets.specs.declared.entry.Entry.{Entry}
 use Rattle.sheets.specs.declared.entry.Entry.TheVariants.{Same}
-use Rattle.sheets.specs.Broken.{broken, Unbroken}
+use Rattle.sheets.specs.Broken.{broken}
 use Rattle.sheets.specs.Entries.{Placed}
 use Rattle.sheets.proofs.open.telling.first_broken.Goals as goal
 

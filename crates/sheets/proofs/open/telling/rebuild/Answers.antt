@@ -1,4 +1,4 @@
-use Rattle.std.proofs.Common.{◌∙◌, arith}
+use Rattle.std.proofs.Common.{◌∙◌}
 use Rattle.closure.proofs.Counts.{progress_ready, progress_booked}
 use Rattle.sheets.proofs.open.telling.rebuild.Goals as goal
 
