@@ -3,7 +3,7 @@ use Rattle.std.proofs.Common.{◌≡◌, ℕ, zero, suc, ◌+◌, ◌-◌, ◌�
 use native.Mathlib.Decide.{dec_le, ℕ_discrete}
 use Rattle.std.proofs.lemmas.List.Elements.{All-weaker, All-push, All-cons, All-head, All-nil, All-tail}
 use Rattle.theory.specs.Sheet.{Picture, Entry, same, differ, On, Placed, Proper, Closure, Lowest, Counts, Classes, First, Breaks, Broken, Bears, Applies}
-use Rattle.theory.specs.Calls.{Call, add, tell, must, why, lock, reopen, value, apply, Refusal, few_cells, no_picture, full, contradiction, many_inputs, apart, Answer, added, joined, noted, told, explained, turned, valued, refused, Content, with_picture, Unless, Impossible, Differs, Contradicted, Taken, Answers, Alike, AnswerLaw}
+use Rattle.theory.specs.Calls.{Call, add, tell, must, why, lock, reopen, value, apply, Refusal, few_cells, no_picture, full, contradiction, many_inputs, apart, Answer, added, joined, noted, told, explained, turned, valued, refused, Content, with_picture, Unless, Impossible, Differs, Contradicted, Taken, Answers, apart_from_steps, Alike, AnswerLaw, AlikeLaw}
 use Rattle.theory.proofs.Closed.{c_refl, lowest_same}
 use Rattle.theory.proofs.Settled.{known_all, explained_by}
 use Rattle.theory.proofs.Laws.{dec_on, find, broken_none, dec_joined, dec_closure, locked, locked_locked, locked-satisfies}
@@ -220,5 +220,13 @@ module _ (cap : ℕ) (s : Content) (w : Proper s.pictures s.entries) where
   one_answer (value p) r q x y = agree _ _ r q _ _ (λ m n. inl (m.2 ∙ ap valued (lowest_one p _ _ m.1 n.1) ∙ sym n.2)) x y
   one_answer (apply o xs) r q x y = agree _ _ r q _ _ (λ m n. inl (m.2 ∙ ap valued (applies_one o xs _ _ m.1 n.1) ∙ sym n.2)) x y
 
+pub alike_law : AlikeLaw
+alike_law cap s w c = one_answer cap s w c
+
+alike_apart : (r q : Answer) → Alike r q → apart_from_steps r ≡ apart_from_steps q
+alike_apart r q (inl e) = ap apart_from_steps e
+alike_apart r q (inr (inl (m, n, a, b))) = ap apart_from_steps a ∙ sym (ap apart_from_steps b)
+alike_apart r q (inr (inr (k, m, n, a, b))) = ap apart_from_steps a ∙ sym (ap apart_from_steps b)
+
 pub answer_law : AnswerLaw
-answer_law cap s w c = (some_answer cap s w c, one_answer cap s w c)
+answer_law cap s w c = (some_answer cap s w c, λ r q x y. alike_apart r q (one_answer cap s w c r q x y))

@@ -9,6 +9,7 @@ use Rattle.theory.specs.Reasons.{Reason, by_entry, by_twins, left, right}
 use Rattle.theory.specs.Calls.{Call, add, tell, must, why, lock, reopen, value, apply, Refusal, few_cells, no_picture, full, contradiction, many_inputs, apart, Answer, added, joined, noted, told, explained, turned, valued, refused, Content, empty, with_picture, Stands, Unless, Differs, Impossible, Shown, Contradicted, Taken, Answers, after}
 use Rattle.theory.specs.Runs.{Goes, leaves}
 use Rattle.theory.specs.Examples.{Example, examples, ExamplesLaw}
+use Rattle.theory.specs.Samples.{Sample, samples, SamplesLaw}
 use Rattle.theory.proofs.Closed.{c_refl, lowest_same, lowest_joins}
 use Rattle.theory.proofs.Naive.{label, eqs, merge, upto, each?, on?, placed?, proper?, closed?, close, fresh, placed_from, proper_from, lowest-label, upto_at, each_at, on_on, inputs_on, good-close, some_upto}
 use Rattle.theory.proofs.Laws.{broken_none, locked, locked_locked, locked-satisfies}
@@ -520,27 +521,40 @@ gone cap s (c ∷ cs) t =
     ((stood s c a.0, ready cap s c b.0, g.0), g.1)
 
 -- THE TABLE
-abbrev calls : Example → List Call
-calls x = map (λ c. c.0) x.log
+abbrev calls : List (Call × Answer) → List Call
+calls log = map (λ c. c.0) log
 
--- the test passes, and the computed answers and classes are those of the table
-abbrev Computed : Example → Type 0
-Computed x =
-    let l = made x.capacity empty (calls x) in
+-- the test passes, and the computed answers and classes are those of the log
+abbrev Computed : ℕ → List (Call × Answer) → ℕ → Type 0
+Computed cap log k =
+    let l = made cap empty (calls log) in
     let s = leaves empty l in
-    (goes? x.capacity empty (calls x) ≡ true) × (l ≡ x.log) × (count_to (close s.pictures s.entries) (length s.pictures) ≡ x.classes)
+    (goes? cap empty (calls log) ≡ true) × (l ≡ log) × (count_to (close s.pictures s.entries) (length s.pictures) ≡ k)
 
-computed : AllByRecursion Computed examples
+worked : (cap : ℕ) (log : List (Call × Answer)) (k : ℕ) → Computed cap log k → Goes cap empty log × (let s = leaves empty log in Classes s.pictures s.entries k)
+worked cap log k c =
+    let l = made cap empty (calls log) in
+    let g = gone cap empty (calls log) c.0 in
+    let s = leaves empty l in
+    subst (λ m. Goes cap empty m × (let t = leaves empty m in Classes t.pictures t.entries k)) c.1
+    (g.0, subst (λ n. Classes s.pictures s.entries n) c.2 (classes_from s.pictures s.entries g.1))
+
+abbrev Worked : Example → Type 0
+Worked x = Computed 1024 x.log x.classes
+
+computed : AllByRecursion Worked examples
 unfolding examples
-computed = ((refl, refl, refl), ((refl, refl, refl), ((refl, refl, refl), ((refl, refl, refl), ((refl, refl, refl), ((refl, refl, refl), ((refl, refl, refl), ((refl, refl, refl), ((refl, refl, refl), ((refl, refl, refl), ((refl, refl, refl), ((refl, refl, refl), ((refl, refl, refl), ((refl, refl, refl), ((refl, refl, refl), tt)))))))))))))))
+computed = ((refl, refl, refl), ((refl, refl, refl), ((refl, refl, refl), ((refl, refl, refl), ((refl, refl, refl), ((refl, refl, refl), ((refl, refl, refl), ((refl, refl, refl), ((refl, refl, refl), tt)))))))))
 
 pub examples_law : ExamplesLaw
-examples_law = All-weaker Computed _ right examples (All-from_recursion Computed examples computed)
-  where
-    right : (x : Example) → Computed x → Goes x.capacity empty x.log × (let s = leaves empty x.log in Classes s.pictures s.entries x.classes)
-    right x c =
-        let l = made x.capacity empty (calls x) in
-        let g = gone x.capacity empty (calls x) c.0 in
-        let s = leaves empty l in
-        subst (λ m. Goes x.capacity empty m × (let t = leaves empty m in Classes t.pictures t.entries x.classes)) c.1
-        (g.0, subst (λ k. Classes s.pictures s.entries k) c.2 (classes_from s.pictures s.entries g.1))
+examples_law = All-weaker Worked _ (λ x. worked 1024 x.log x.classes) examples (All-from_recursion Worked examples computed)
+
+abbrev Sampled : Sample → Type 0
+Sampled x = Computed x.capacity x.log x.classes
+
+sampled : AllByRecursion Sampled samples
+unfolding samples
+sampled = ((refl, refl, refl), ((refl, refl, refl), ((refl, refl, refl), ((refl, refl, refl), ((refl, refl, refl), ((refl, refl, refl), tt))))))
+
+pub samples_law : SamplesLaw
+samples_law = All-weaker Sampled _ (λ x. worked x.capacity x.log x.classes) samples (All-from_recursion Sampled samples sampled)

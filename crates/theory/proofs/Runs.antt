@@ -10,7 +10,7 @@ use Rattle.theory.specs.Runs.{Goes, leaves, Within, FewSteps, Refuted, NextEntry
 use Rattle.theory.proofs.Settled.{known_all}
 use Rattle.theory.proofs.Laws.{dec_on, find, broken_none, dec_joined, locked, locked_locked, locked-satisfies, must_law, locked_law}
 use Rattle.theory.proofs.Few.{few_law}
-use Rattle.theory.proofs.Answering.{answer_law}
+use Rattle.theory.proofs.Answering.{alike_law}
 use Rattle.theory.proofs.Growing.{placed_more, ordered_more, holds_more}
 use Rattle.theory.proofs.Each.{uncons}
 
@@ -241,7 +241,7 @@ follows cap s g [] [] h k e = (refl, tt)
 follows cap s g [] (d ∷ m) h k e = absurd e
 follows cap s g (c ∷ l) [] h k e = absurd e
 follows cap s g (c ∷ l) (d ∷ m) h k e =
-    let a = (answer_law cap s g.0 c.0).1 c.1 d.1 h.1 (subst (λ x. Answers cap s x d.1) (sym e.0) k.1) in
+    let a = alike_law cap s g.0 c.0 c.1 d.1 h.1 (subst (λ x. Answers cap s x d.1) (sym e.0) k.1) in
     let q : after s d.0 d.1 ≡ after s c.0 c.1 = ap (λ x. after s x d.1) (sym e.0) ∙ sym (alike_after s c.0 c.1 d.1 a) in
     let f = follows cap (after s c.0 c.1) (step_sound cap c.0 c.1 s g h.1) l m h.2 (subst (λ t. Goes cap t m) q k.2) e.1 in
     (f.0 ∙ ap (λ t. leaves t m) (sym q), (a, f.1))

@@ -4,7 +4,7 @@ use native.Mathlib.Decide.{ℕ_discrete}
 use Rattle.std.specs.List.{AllZip}
 use Rattle.std.proofs.lemmas.List.Elements.{All-contains, All-push, All-cons, All-nil}
 use Rattle.theory.specs.Sheet.{Picture, Entry, differ, On, Is, Keeps, Closure, Lowest, Counts, inputs}
-use Rattle.theory.specs.Laws.{ClosureLaw, LowestLaw, ClassesLaw, Valued, NoValueLaw, DifferLaw}
+use Rattle.theory.specs.Laws.{ClosureLaw, LowestLaw, ClassesLaw, Valued, WideLaw, NoValueLaw, DifferLaw}
 use Rattle.theory.proofs.Closed.{c_refl, c_sym, c_trans, c_twins, c_keeps, lowest_same}
 use Rattle.theory.proofs.Settled.{known_all}
 use Rattle.theory.proofs.Each.{uncons}
@@ -59,6 +59,9 @@ no_value_law P E = (
   (λ o xs v a x h n. a.1 (λ p b. n (All-contains (Valued P E) xs x (row_values P E (inputs P p) xs b.2) h))),
   (λ x off l. off l.1.0.1),
 )
+
+pub wide_law : WideLaw
+wide_law P E o xs v a x h l = let n = no_value_law P E in n.0 o xs v a x h (n.1 x l)
 
 -- ONE ENTRY MORE
 all_front : (Q : Entry → Type 0) (E : List Entry) (e : Entry) → All Q (E ++ (e ∷ [])) → All Q E

@@ -228,6 +228,33 @@ Checked cap s (apply o xs) r = (4 < length xs) ↔ Refuses r 5
 abbrev pub ChecksLaw : Type 0
 ChecksLaw = (cap : ℕ) (s : Content) (c : Call) (r : Answer) → Answers cap s c r → Checked cap s c r
 
+-- a refusal without the steps of its chain
+abbrev pub refusal_apart : Refusal → Refusal
+refusal_apart few_cells = few_cells
+refusal_apart no_picture = no_picture
+refusal_apart full = full
+refusal_apart (contradiction k n) = contradiction k 0
+refusal_apart many_inputs = many_inputs
+refusal_apart apart = apart
+
+-- an answer without the steps of its chain
+abbrev pub apart_from_steps : Answer → Answer
+apart_from_steps (added n m) = added n m
+apart_from_steps (joined n j) = joined n j
+apart_from_steps (noted n) = noted n
+apart_from_steps (told b) = told b
+apart_from_steps (explained n) = explained 0
+apart_from_steps turned = turned
+apart_from_steps (valued v) = valued v
+apart_from_steps (refused f) = refused (refusal_apart f)
+
+-- On a sheet each call has an answer, and two answers to it are the same apart from the steps of the chain.
+abbrev pub AnswerLaw : Type 0
+AnswerLaw =
+    (cap : ℕ) (s : Content) → Proper s.pictures s.entries → (c : Call) →
+    ((r : Answer) × Answers cap s c r)
+    × ((r q : Answer) → Answers cap s c r → Answers cap s c q → apart_from_steps r ≡ apart_from_steps q)
+
 -- two answers are the same apart from the steps of the chain, which the rules leave free
 abbrev pub Alike : Answer → Answer → Type 0
 Alike r q =
@@ -235,12 +262,9 @@ Alike r q =
     ⊎ (((m n : ℕ) × (r ≡ explained m) × (q ≡ explained n))
     ⊎ ((k m n : ℕ) × (r ≡ refused (contradiction k m)) × (q ≡ refused (contradiction k n))))
 
--- On a sheet each call has an answer, and two answers to it are the same apart from the steps of the chain.
-abbrev pub AnswerLaw : Type 0
-AnswerLaw =
-    (cap : ℕ) (s : Content) → Proper s.pictures s.entries → (c : Call) →
-    ((r : Answer) × Answers cap s c r)
-    × ((r q : Answer) → Answers cap s c r → Answers cap s c q → Alike r q)
+-- So two answers to one call are alike.
+abbrev pub AlikeLaw : Type 0
+AlikeLaw = (cap : ℕ) (s : Content) → Proper s.pictures s.entries → (c : Call) (r q : Answer) → Answers cap s c r → Answers cap s c q → Alike r q
 
 -- What the sheet holds after a call and its answer: add appends its picture, and the call of an entry appends the entry, unless they are refused; lock and
 -- reopen turn the sheet; no other call changes anything.

@@ -26,6 +26,11 @@ ClassesLaw =
     (P : List Picture) (E : List Entry) → Proper P E →
     (k : ℕ) × Classes P E k × ((j : ℕ) → Classes P E j → j ≡ k)
 
+-- apply answers 0 wherever one of its numbers is no picture's; a run has at most 1,024 pictures, so this holds of 0 and of every number of more than 16 bits
+abbrev pub WideLaw : Type 0
+WideLaw =
+    (P : List Picture) (E : List Entry) (o : ℕ) (xs : List ℕ) (v : ℕ) → Applies P E o xs v → (x : ℕ) → Contains xs x → ¬ On P x → v ≡ 0
+
 -- x is the value of a picture, the lowest number in its class
 abbrev pub Valued : List Picture → List Entry → ℕ → Type 0
 Valued P E x = (p : ℕ) × Lowest P E p x

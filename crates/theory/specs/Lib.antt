@@ -11,3 +11,4 @@ pub mod Numbers
 pub mod Leaving
 pub mod Breaking
 pub mod Examples
+pub mod Samples

@@ -2,9 +2,9 @@
 #![tactic(auto)]
 
 ghost use Rattle.theory.specs.Statements.{ValueLaw, ShortLaw, ContradictionLaw, MustLaw, LockedLaw};
-ghost use Rattle.theory.specs.Laws.{ClosureLaw, LowestLaw, ClassesLaw, NoValueLaw, AddLaw, DifferLaw, TwinsLaw, TwinLaw};
+ghost use Rattle.theory.specs.Laws.{ClosureLaw, LowestLaw, ClassesLaw, WideLaw, NoValueLaw, AddLaw, DifferLaw, TwinsLaw, TwinLaw};
 ghost use Rattle.theory.specs.Reasons.{StepLaw, DerivationLaw, ExplainsLaw};
-ghost use Rattle.theory.specs.Calls.{AnswerLaw, ChecksLaw};
+ghost use Rattle.theory.specs.Calls.{AnswerLaw, AlikeLaw, ChecksLaw};
 ghost use Rattle.theory.specs.Slices.{FewLaw, SliceLaw};
 ghost use Rattle.theory.specs.Parts.{JoinLaw, PartsLaw};
 ghost use Rattle.theory.specs.Journal.{JoinMoreLaw, EntryMoreLaw, PictureMoreLaw, TracksLaw, TracksMoreLaw};
@@ -13,6 +13,7 @@ ghost use Rattle.theory.specs.Numbers.{NumbersLaw, NextNumberLaw};
 ghost use Rattle.theory.specs.Leaving.{StandsLaw, RefusalLaw, RefusedLaw, AppendedLaw, AskedLaw, TurnedLaw, LockingLaw, SameAnswersLaw, CallMoreLaw};
 ghost use Rattle.theory.specs.Breaking.{BrokenLaw, DetailLaw, NoDetailLaw, WritesLaw, StepsLaw, NoStepsLaw};
 ghost use Rattle.theory.specs.Examples.{ExamplesLaw};
+ghost use Rattle.theory.specs.Samples.{SamplesLaw};
 
 // The value of a picture is its operation's result for the list of its inputs' values, and only what a reading gives for lists of at most four numbers counts.
 pub fn a_value_is_its_operations_result() -> u8
@@ -38,6 +39,13 @@ pub fn a_class_has_one_lowest_number() -> u8
 // There is exactly one number of classes.
 pub fn there_is_one_number_of_classes() -> u8
     ensures { ClassesLaw }
+{
+    0
+}
+
+// apply answers 0 wherever one of its numbers is no picture's.
+pub fn apply_gives_nothing_for_wide_numbers() -> u8
+    ensures { WideLaw }
 {
     0
 }
@@ -136,7 +144,8 @@ pub fn a_journal_stays_a_chain() -> u8
 
 // On a sheet each call has an answer, and two answers to it are the same apart from the steps of the chain.
 pub fn a_call_has_one_answer() -> u8
-    ensures { AnswerLaw }
+    ensures answer { AnswerLaw }
+    ensures alike { AlikeLaw }
 {
     0
 }
@@ -231,6 +240,13 @@ pub fn runs_keep_the_laws() -> u8
 // The worked examples answer as the rules say.
 pub fn the_worked_examples_hold() -> u8
     ensures { ExamplesLaw }
+{
+    0
+}
+
+// So do further examples, with several broken entries, one numbering, why, the refusals, a sheet opened again and a full keeper.
+pub fn the_further_examples_hold() -> u8
+    ensures { SamplesLaw }
 {
     0
 }
