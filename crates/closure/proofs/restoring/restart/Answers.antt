@@ -1,4 +1,4 @@
-use Rattle.std.proofs.Common.{length, ap, ◌∙◌, arith}
+use Rattle.std.proofs.Common.{length, ap, ◌∙◌, arith, rules}
 use Rattle.std.proofs.lemmas.List.FromFn.{length-range_with_len}
 use Rattle.closure.specs.Working.{Ready}
 use Rattle.closure.proofs.Inwards.{empty_inward}
@@ -11,7 +11,7 @@ settle-requires g c =
       ready = record { counted = ap length c.populate.ensures ∙ length-range_with_len 1 (length c.args.pictures.now); few = c.requires.ready.few; fed = c.requires.ready.fed };
       sized = omega arith;
       inward = empty_inward _ _ c.reset.ensures;
-      booked = booked_none _ _ c.clear.ensures.len;
+      booked = booked_none _ _ (search rules);
       room = omega arith;
     }
 
@@ -23,6 +23,6 @@ returns g c =
     record {
       ready = progress_ready _ _ _ _ _ p r;
       inward = c.settle.ensures.inward;
-      booked = progress_booked _ _ _ _ p (booked_none _ _ c.clear.ensures.len);
-      space = c.settle.ensures.space ∙ c.clear.ensures.capacity;
+      booked = progress_booked _ _ _ _ p (booked_none _ _ (search rules));
+      space = cc;
     }

@@ -17,7 +17,7 @@ merge-requires g c =
     let a : Apart rs c.args.join = record {
       left_on = (c.requires.on.0.0, omega (arith, c.requires.on.0.1, c.requires.ready.counted));
       right_on = (c.requires.on.1.0, omega (arith, c.requires.on.1.1, c.requires.ready.counted));
-      apart = eqb-false _ _ (sym c.together.ensures.answer ∙ c.if-together.false);
+      apart = eqb-false _ _ (cc);
     } in
     let r = apart_room c.args.join (vec_len c.args.journal.now) rs (g.met.K.Keeper.settled c.args.k.now) a c.requires.booked in
     record {
@@ -32,7 +32,7 @@ settle-requires g c =
     let a : Apart rs c.args.join = record {
       left_on = (c.requires.on.0.0, omega (arith, c.requires.on.0.1, c.requires.ready.counted));
       right_on = (c.requires.on.1.0, omega (arith, c.requires.on.1.1, c.requires.ready.counted));
-      apart = eqb-false _ _ (sym c.together.ensures.answer ∙ c.if-together.false);
+      apart = eqb-false _ _ (cc);
     } in
     let p = joined c.args.join _ _ rs _ _ c.together.ensures.same c.merge.ensures.len (g.met.K.Keeper.settled c.args.k.now) a c.merge.ensures.unites in
     record {
@@ -49,7 +49,7 @@ returns g c =
     let a : Apart rs c.args.join = record {
       left_on = (c.requires.on.0.0, omega (arith, c.requires.on.0.1, c.requires.ready.counted));
       right_on = (c.requires.on.1.0, omega (arith, c.requires.on.1.1, c.requires.ready.counted));
-      apart = eqb-false _ _ (sym c.together.ensures.answer ∙ c.if-together.false);
+      apart = eqb-false _ _ (cc);
     } in
     let p = joined c.args.join _ _ rs _ _ c.together.ensures.same c.merge.ensures.len (g.met.K.Keeper.settled c.args.k.now) a c.merge.ensures.unites in
     record {
