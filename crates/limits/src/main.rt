@@ -3,7 +3,8 @@
 
 use indexes::Chained;
 use keepers::Links;
-use lists::print_record;
+use printouts::print_record;
+use std::str::from_utf8;
 
 fn main(rt: HostRuntime) -> anyhow::Result<()> {
     show(&rt, "an empty text", b"")?;
@@ -48,17 +49,18 @@ fn newlines(rt: &HostRuntime, n: usize) -> anyhow::Result<Vec<u8>> {
 // Prints what the record of a list has.
 fn show(rt: &HostRuntime, name: &str, text: &[u8]) -> anyhow::Result<()> {
     let heap = rt.alloc();
-    let out = print_record(heap, Links::new(heap)?, Chained::new(heap)?, text)?;
-    let count = out.as_str().lines().count();
+    let record = print_record(heap, Links::new(heap)?, Chained::new(heap)?, text)?;
+    let out = from_utf8(record.as_slice())?;
+    let count = out.lines().count();
     println!(rt; "== {name}: {count} lines")?;
-    for line in out.as_str().lines().take(2) {
+    for line in out.lines().take(2) {
         println!(rt; "{line}")?;
     }
     if count > 4 {
         println!(rt; "..")?;
     }
     if count > 2 {
-        for line in out.as_str().lines().skip(count.saturating_sub(2).max(2)) {
+        for line in out.lines().skip(count.saturating_sub(2).max(2)) {
             println!(rt; "{line}")?;
         }
     }

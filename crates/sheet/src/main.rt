@@ -3,7 +3,7 @@
 
 use indexes::Chained;
 use keepers::Links;
-use lists::print_record;
+use printouts::print_record;
 use std::io::Read;
 
 fn main(rt: HostRuntime) -> anyhow::Result<()> {
@@ -16,6 +16,6 @@ fn main(rt: HostRuntime) -> anyhow::Result<()> {
         Chained::new(heap)?,
         text.as_slice(),
     )?;
-    rt.write_all(out.as_bytes())?;
+    rt.write_all(out.as_slice())?;
     Ok(())
 }

@@ -1,0 +1,11 @@
+pub mod Rows
+pub mod Options
+pub mod Moves
+pub mod Journals
+pub mod Pigeons
+pub mod Posts
+pub mod Sweeps
+pub mod Fusing
+pub mod Replays
+pub mod Resting
+pub mod Growing

@@ -1,0 +1,3 @@
+pub mod Drawn
+pub mod Working
+pub mod Waiting

@@ -1,0 +1,18 @@
+// The congruence closure of a row of pictures, kept up to date through any class keeper and any signature index.
+#![tactic(auto)]
+
+// pictures, and what is noted of them while classes are joined
+pub mod picture;
+// the joins that were made, in order
+pub mod journal;
+// representatives of pictures and of rows
+pub mod rooting;
+// two classes made one
+pub mod merging;
+// twins put together
+pub mod settling;
+// classes made again from the journal
+pub mod restoring;
+
+pub use journal::{Cause, Join};
+pub use picture::{Note, Picture};

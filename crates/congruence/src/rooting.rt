@@ -1,0 +1,75 @@
+ghost use Rattle.std.specs.Prelude.{◌≡◌, ℕ, ◌+◌, ◌<◌, ◌≤◌, List, map, length, All, ◌==◌};
+ghost use Rattle.keepers.specs.Meaning.{rep, Within, Upto, class_count};
+ghost use Rattle.indexes.specs.Rows.{cells_of};
+ghost use Rattle.congruence.specs.Working.{Lowest};
+
+use indexes::Row;
+use keepers::Keeper;
+
+// The representative of a picture.
+pub fn root<K: Keeper>(k: &mut K, p: u16) -> u16
+    requires { Within (K.reps k.old) p }
+    ensures answer { result ≡ rep (K.reps k.old) p }
+    ensures same { K.reps k.new ≡ K.reps k.old }
+{
+    match k.find(p) {
+        Ok(r) => r,
+        Err(_) => unreachable(),
+    }
+}
+
+// Whether two pictures are in one class.
+pub fn together<K: Keeper>(k: &mut K, p: u16, q: u16) -> bool
+    requires on { Within (K.reps k.old) p × Within (K.reps k.old) q }
+    ensures answer { result ≡ (rep (K.reps k.old) p == rep (K.reps k.old) q) }
+    ensures same { K.reps k.new ≡ K.reps k.old }
+{
+    root(k, p) == root(k, q)
+}
+
+// The representatives of a row.
+pub fn roots<K: Keeper>(k: &mut K, row: &Row) -> Row
+    requires { All (Within (K.reps k.old)) (cells_of row.now) }
+    ensures answer { cells_of result ≡ map (rep (K.reps k.old)) (cells_of row.now) }
+    ensures same { K.reps k.new ≡ K.reps k.old }
+{
+    let inputs = row.as_slice();
+    let n = inputs.len();
+    let mut cells = [0u16; 4];
+    for i in 0..n {
+        cells[i] = root(k, inputs[i]);
+    }
+    match Row::new(&cells[0..n]) {
+        Some(r) => r,
+        None => unreachable(),
+    }
+}
+
+// The lowest number in the class of a picture.
+pub fn lowest<K: Keeper>(k: &mut K, p: u16) -> u16
+    requires { Within (K.reps k.old) p }
+    ensures answer { Lowest (K.reps k.old) p result }
+    ensures same { K.reps k.new ≡ K.reps k.old }
+{
+    for q in 1..p {
+        if together(k, q, p) {
+            return q;
+        }
+    }
+    p
+}
+
+// The number of classes among the pictures 1 to n.
+pub fn classes<K: Keeper>(k: &mut K, n: u16) -> u16
+    requires { n ≡ length (K.reps k.old) }
+    ensures answer { result ≡ class_count (K.reps k.old) }
+    ensures same { K.reps k.new ≡ K.reps k.old }
+{
+    let mut c = 0;
+    for i in 0..n {
+        if root(k, i + 1) == i + 1 {
+            c += 1;
+        }
+    }
+    c
+}

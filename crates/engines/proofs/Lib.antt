@@ -1,0 +1,6 @@
+pub mod Numbers
+pub mod Deciding
+pub mod Telling
+pub mod Stopping
+pub mod Adding
+pub mod Values

@@ -1,0 +1,64 @@
+ghost use Rattle.std.specs.Prelude.{◌≡◌, ℕ, ◌+◌, ◌<◌, ◌≤◌, length};
+ghost use Rattle.theory.specs.Sheet.{Classes};
+ghost use Rattle.theory.specs.Calls.{Answers};
+ghost use Rattle.theory.specs.Calls.{must as asking};
+ghost use Rattle.theory.specs.Calls.{why as asking_why};
+ghost use Rattle.engines.specs.Content.{content, pictures_on, entries_on};
+ghost use Rattle.engines.specs.Faults.{must_reply, why_reply};
+ghost use Rattle.engines.specs.Whole.{Whole};
+ghost use Rattle.engines.specs.Tables.{WhyTable};
+
+use crate::fault::SheetFault;
+use crate::open::Open;
+use crate::open::checks::check_pair;
+use congruence::rooting::together;
+use indexes::Index;
+use keepers::Keeper;
+use reasons::Step;
+
+impl<K: Keeper, I: Index> Open<K, I> {
+    // Whether two pictures are in one class. Nothing of what the sheet means changes.
+    pub fn must(&mut self, a: u16, b: u16) -> Result<bool, SheetFault>
+        requires { Whole K.Keeper I.Index self.old }
+        ensures whole { Whole K.Keeper I.Index self.new }
+        ensures answer { Answers K.Keeper.limit (content self.old) (asking a b) (must_reply result) }
+        ensures same { content self.new ≡ content self.old }
+    {
+        check_pair(self.pictures.len(), a, b)?;
+        Ok(together(&mut self.keeper, a, b))
+    }
+
+    // Writes a reason chain that joins two pictures of one class into the step table, and answers its number of steps. Nothing of what the sheet means changes.
+    pub fn why(&mut self, table: &mut [Step], a: u16, b: u16) -> Result<u16, SheetFault>
+        requires { Whole K.Keeper I.Index self.old }
+        ensures whole { Whole K.Keeper I.Index self.new }
+        ensures answer { Answers K.Keeper.limit (content self.old) (asking_why a b (length table.old)) (why_reply result) }
+        ensures same { content self.new ≡ content self.old }
+        ensures table { WhyTable (pictures_on self.old) (entries_on self.old) a b table.old table.new result }
+    {
+        if table.len() < 1024 {
+            return Err(SheetFault::FewCells);
+        }
+        check_pair(self.pictures.len(), a, b)?;
+        if !together(&mut self.keeper, a, b) {
+            return Err(SheetFault::Apart);
+        }
+        Ok(
+            self.explainer.explain(
+                table,
+                self.pictures.as_slice(),
+                self.journal.as_slice(),
+                a,
+                b,
+            ),
+        )
+    }
+
+    // The number of classes.
+    pub fn classes(&self) -> u16
+        requires { Whole K.Keeper I.Index self.now }
+        ensures { Classes (pictures_on self.now) (entries_on self.now) result }
+    {
+        (self.pictures.len() - self.journal.len()) as u16
+    }
+}

@@ -1,0 +1,35 @@
+ghost use Rattle.std.specs.Prelude.{◌≡◌, ◌+◌, ◌<◌, ◌≤◌, length, IfOk, MatchResult, slice_index};
+ghost use Rattle.printouts.specs.declared.fault.NumberFault.TheVariants.{Shape};
+ghost use Rattle.printouts.specs.Numerals.{Longest, Took, Bare};
+
+use crate::fault::NumberFault;
+
+// The number at the start of a text, and what follows it. `at` is its place in the line.
+pub(crate) fn read_number(text: &[u8], at: usize) -> Result<(u32, &[u8]), NumberFault>
+    ensures reads { MatchResult result (λ x. Took text.now x.0 x.1.now) (λ e. (e ≡ Shape at) × Bare text.now) }
+    ensures lens { IfOk result (λ x. (length x.1.now < length text.now) × (length text.now ≤ length x.1.now + 5)) }
+{
+    match text {
+        [b'0', ..] => Ok(read_digits(text, 1)),
+        [b'1'..=b'9', ..] => Ok(read_digits(text, 5)),
+        _ => Err(NumberFault::Shape(at)),
+    }
+}
+
+// The number of up to `most` digits at the start of a text, and what follows it.
+fn read_digits(text: &[u8], most: u8) -> (u32, &[u8])
+    requires { Longest (slice_index text.now 0) most }
+    ensures reads { Took text.now result.0 result.1.now }
+    ensures lens { (length result.1.now < length text.now) × (length text.now ≤ length result.1.now + 5) }
+{
+    let mut value = 0u32;
+    let mut rest = text;
+    for _ in 0..most {
+        let [digit @ b'0'..=b'9', more @ ..] = rest else {
+            break;
+        };
+        value = value * 10 + u32::from(*digit - b'0');
+        rest = more;
+    }
+    (value, rest)
+}

@@ -1,0 +1,5 @@
+mod Marked
+mod Writing
+mod Rows
+mod States
+mod Telling

@@ -1,0 +1,101 @@
+ghost use Rattle.std.specs.Prelude.{◌≡◌, ◌≤◌, true, length};
+ghost use Rattle.std.specs.List.{range_with_len, AllZip};
+ghost use Rattle.congruence.specs.Drawn.{sheet, reason_of, reasons};
+ghost use Rattle.reasons.specs.Marks.{Enough, Alike, Stands, Absorbed};
+
+use crate::inputs::inputs_of;
+use congruence::{Cause, Join, Picture};
+use keepers::{Keeper, is_same};
+
+// Makes the keeper count n pictures, each alone. Says whether it has room for them.
+pub fn prepare<S: Keeper>(scratch: &mut S, n: usize) -> bool
+    ensures { result ≡ true → S.reps scratch.new ≡ range_with_len 1 n }
+{
+    scratch.reset();
+    for _i in 0..n {
+        match scratch.grow() {
+            Ok(_) => {}
+            Err(_) => return false,
+        }
+    }
+    true
+}
+
+// Whether two pictures are in one class.
+fn one_class<S: Keeper>(scratch: &mut S, x: u16, y: u16) -> bool
+    ensures answer { result ≡ true → Alike (S.reps scratch.old) x y }
+    ensures same { S.reps scratch.new ≡ S.reps scratch.old }
+{
+    match is_same(scratch, x, y) {
+        Ok(same) => same,
+        Err(_) => false,
+    }
+}
+
+// Whether two rows are in one class in pairs.
+fn alike<S: Keeper>(scratch: &mut S, left: &[u16], right: &[u16]) -> bool
+    ensures answer { result ≡ true → AllZip (Alike (S.reps scratch.old)) left.now right.now }
+    ensures same { S.reps scratch.new ≡ S.reps scratch.old }
+{
+    if left.len() != right.len() {
+        return false;
+    }
+    for i in 0..left.len() {
+        if !one_class(scratch, left[i], right[i]) {
+            return false;
+        }
+    }
+    true
+}
+
+// Whether a join stands on what is in one class already.
+fn stands<S: Keeper>(scratch: &mut S, pictures: &[Picture], join: &Join) -> bool
+    ensures answer { result ≡ true → Stands (sheet pictures.now) (S.reps scratch.old) (reason_of join.now) }
+    ensures same { S.reps scratch.new ≡ S.reps scratch.old }
+{
+    let Cause::Twins = join.cause else {
+        return true;
+    };
+    match (
+        inputs_of(pictures, join.left),
+        inputs_of(pictures, join.right),
+    ) {
+        (Some(left), Some(right)) => alike(scratch, left, right),
+        _ => false,
+    }
+}
+
+// Makes the two classes of a join one, if it stands on what is in one class already.
+fn absorb<S: Keeper>(scratch: &mut S, pictures: &[Picture], join: &Join) -> bool
+    ensures { result ≡ true → Absorbed (sheet pictures.now) (reason_of join.now) (S.reps scratch.old) (S.reps scratch.new) }
+{
+    if !stands(scratch, pictures, join) {
+        return false;
+    }
+    scratch.join(join.left, join.right).is_ok()
+}
+
+// Whether the marked joins stand on one another, and join a and b.
+pub fn certify<S: Keeper>(
+    scratch: &mut S,
+    pictures: &[Picture],
+    journal: &[Join],
+    marks: &[bool],
+    a: u16,
+    b: u16,
+) -> bool
+    requires marked { length journal.now ≤ length marks.now }
+    ensures { result ≡ true → Enough (sheet pictures.now) (reasons journal.now) a b marks.now }
+{
+    if !prepare(scratch, pictures.len()) {
+        return false;
+    }
+    for i in 0..journal.len() {
+        if marks[i] {
+            if !absorb(scratch, pictures, &journal[i]) {
+                return false;
+            }
+        }
+    }
+    one_class(scratch, a, b)
+}
