@@ -5,7 +5,7 @@ use Rattle.theory.specs.Sheet.{same, differ, Proper, Classes}
 use Rattle.theory.specs.Calls.{Call, add, tell, must, why, lock, reopen, value, apply, Content, empty, Stands, Answers, after, is_refused, with_picture, with_entry, Alike}
 use Rattle.theory.specs.Calls.{Answer as Said}
 use Rattle.theory.specs.Runs.{Run, leaves}
-use Rattle.theory.proofs.Answering.{answer_law}
+use Rattle.theory.proofs.Answering.{alike_law}
 use Rattle.theory.proofs.Leaving.{call_more_law}
 use Rattle.theory.proofs.Runs.{run_law}
 use Rattle.theory.proofs.Small.{classes_law}
@@ -115,7 +115,7 @@ one_did : (cap : ℕ) (s s' s'' : Content) (c : ℕ) (ns : List ℕ) (o q : Outc
     (reply_text (carried o) ≡ reply_text (carried q)) × (s' ≡ s'')
 one_did cap s s' s'' c ns o q g d e =
     let k : e.call ≡ d.call = sym (made c ns e.call e.makes) ∙ made c ns d.call d.makes in
-    let alike = (answer_law cap s (reached_proper cap s g) d.call).1 (outcome_of o) (outcome_of q) d.answers (subst (λ (x : Call). Answers cap s x (outcome_of q)) k e.answers) in (
+    let alike = alike_law cap s (reached_proper cap s g) d.call (outcome_of o) (outcome_of q) d.answers (subst (λ (x : Call). Answers cap s x (outcome_of q)) k e.answers) in (
       carried_text o ∙ (said_alike (outcome_of o) (outcome_of q) alike ∙ sym (carried_text q)),
       d.leaves ∙ (after_alike s d.call (outcome_of o) (outcome_of q) alike ∙ (ap (λ (x : Call). after s x (outcome_of q)) (sym k) ∙ sym e.leaves)),
     )
