@@ -1,24 +1,26 @@
 -- One picture more, in a class of its own, which waits. Assumes nothing.
-use Rattle.std.proofs.Common.{◌≡◌, ℕ, zero, suc, ◌+◌, ◌-◌, ◌<◌, ◌≤◌, true, false, ◌⊎◌, List, [], ◌∷◌, ◌++◌, map, length, get_or, All, Option, sym, refl, ap, ◌∙◌, subst, ap₂, inl, inr, arith}
+use Rattle.std.proofs.Common.{◌≡◌, ℕ, zero, suc, ◌+◌, ◌-◌, ◌<◌, ◌≤◌, true, false, ◌⊎◌, List, [], ◌∷◌, ◌++◌, map, length, get_or, All, Option, sym, refl, ap, ◌∙◌, subst, subst₂, ap₂, inl, inr, arith}
 use native.Mathlib.Decide.{dec_le}
 use Rattle.std.proofs.lemmas.List.Elements.{All-weaker, All-head, All-tail}
 use Rattle.std.proofs.lemmas.Bool.{both_ways}
-use Rattle.std.proofs.lemmas.List.{length_push, map-append, get_or_append_left, get_or_push, length-map}
+use Rattle.std.proofs.lemmas.List.{length_push, map-append, get_or_append_left, get_or_push, length-map, length-take}
 use Rattle.theory.specs.Sheet.{Picture, On, operation, inputs}
 use Rattle.theory.specs.Reasons.{left, right, JoinedBy}
 use Rattle.theory.specs.Parts.{Parts}
 use Rattle.theory.proofs.Growing.{longer, on_more, kept_picture, new_picture, ordered_more}
-use Rattle.theory.proofs.Journals.{up}
+use Rattle.theory.proofs.Journals.{up, tracks_law}
 use Rattle.theory.proofs.Parts.{parts_grown}
 use Rattle.theory.proofs.Slices.{l_refl}
-use Rattle.keepers.specs.Meaning.{rep, Settled}
+use Rattle.keepers.specs.Meaning.{rep, Upto, Settled}
+use Rattle.indexes.specs.Rows.{cells_of}
 use Rattle.keepers.specs.Reps.{rep_old, rep_new}
 use Rattle.congruence.specs.declared.journal.Join.{Join}
-use Rattle.congruence.specs.declared.picture.Note.{Note}
-use Rattle.congruence.specs.Drawn.{reasons}
-use Rattle.congruence.specs.Working.{Ready, Books}
+use Rattle.congruence.specs.declared.picture.Picture.{Picture as Held}
+use Rattle.congruence.specs.Drawn.{drawn, sheet, reasons}
+use Rattle.congruence.specs.Working.{Ready, Books, Fed, Grows, Any}
 use Rattle.congruence.specs.Waiting.{row, noted, waits, Every, Posted, Working}
-use Rattle.congruence.proofs.Journals.{within, inputs_on}
+use Rattle.congruence.proofs.Journals.{within, inputs_on, joined_more}
+use Rattle.congruence.proofs.Fusing.{going_noted}
 use Rattle.congruence.proofs.Sweeps.{row_of, waits_of}
 
 -- what is numbered from one, with one more at the end
@@ -30,14 +32,27 @@ number_new : {X Y : Type 0} (g : X → Y) (z : Y) (xs : List X) (x : X) (p : ℕ
 number_new g z xs x zero e = absurd (omega arith)
 number_new g z xs x (suc i) e = ap (λ ys. get_or ys i z) (map-append g xs (x ∷ [])) ∙ get_or_push (map g xs) (g x) z i (omega (arith, e, length-map xs g))
 
-module _ (rs rs' : List ℕ) (P : List Picture) (x : Picture) (N : List Note) (note : Note) (m : ℕ → List ℕ → Option ℕ) (J : List Join) (n : ℕ)
-    (w : Working rs P N m J) (set : Settled rs) (few : length P < 1024) (is-n : n ≡ length rs + 1) (grown : rs' ≡ rs ++ n ∷ []) (fed : All (On P) x.inputs) (short : length x.inputs ≤ 4)
-    (own_row : row_of note ≡ map (rep rs') x.inputs) (late : note.waits ≡ true) where
+module _ (rs rs' : List ℕ) (ps : List Held) (h : Held) (m : ℕ → List ℕ → Option ℕ) (J : List Join) (n : ℕ)
+    (w : Working rs ps m J) (set : Settled rs) (few : length ps < 1024) (is-n : n ≡ length rs + 1) (grown : rs' ≡ rs ++ n ∷ []) (fed : All (On (sheet ps)) (drawn h).inputs) (short : length (drawn h).inputs ≤ 4)
+    (own_row : row_of h ≡ map (rep rs') (drawn h).inputs) (late : h.waits ≡ true) where
+  abbrev P : List Picture
+  P = sheet ps
+
+  abbrev x : Picture
+  x = drawn h
+
   abbrev P' : List Picture
   P' = P ++ x ∷ []
 
-  abbrev N' : List Note
-  N' = N ++ note ∷ []
+  abbrev ps' : List Held
+  ps' = ps ++ h ∷ []
+
+  -- the sheet has one picture more
+  pushed : sheet ps' ≡ P'
+  pushed = map-append drawn ps (h ∷ [])
+
+  sized : length ps ≡ length P
+  sized = sym (length-map ps drawn)
 
   count : length rs ≡ length P
   count = w.ready.counted
@@ -66,7 +81,7 @@ module _ (rs rs' : List ℕ) (P : List Picture) (x : Picture) (N : List Note) (n
   ready =
       record {
         counted = ap length grown ∙ (length_push rs n ∙ omega (arith, count, longer P x));
-        few = omega (arith, few, longer P x);
+        few = omega (arith, few, longer P x, sized);
         ordered = ordered_more P x w.ready.ordered short fed;
       }
 
@@ -90,17 +105,14 @@ module _ (rs rs' : List ℕ) (P : List Picture) (x : Picture) (N : List Note) (n
       told p q (inr a) (inl b) op oq e = let i = low q b in let j = new p a in absurd (omega (arith, i, j, e, a))
       told p q (inr a) (inr b) op oq e = subst (λ (z : ℕ). JoinedBy P' (reasons J) p z) (a ∙ sym b) (l_refl P' (reasons J) p op)
 
-  sized : length N ≡ length P
-  sized = w.going.sized
+  row_old : (p : ℕ) → On P p → noted ps' p ≡ noted ps p
+  row_old p o = number_old row_of [] ps h p (omega (arith, o.1, sized))
 
-  row_old : (p : ℕ) → On P p → noted N' p ≡ noted N p
-  row_old p o = number_old row_of [] N note p (omega (arith, o.1, sized))
+  wait_old : (p : ℕ) → On P p → waits ps' p ≡ waits ps p
+  wait_old p o = number_old waits_of false ps h p (omega (arith, o.1, sized))
 
-  wait_old : (p : ℕ) → On P p → waits N' p ≡ waits N p
-  wait_old p o = number_old waits_of false N note p (omega (arith, o.1, sized))
-
-  wait_new : (p : ℕ) → p ≡ suc (length P) → waits N' p ≡ true
-  wait_new p e = number_new waits_of false N note p (omega (arith, e, sized)) ∙ late
+  wait_new : (p : ℕ) → p ≡ suc (length P) → waits ps' p ≡ true
+  wait_new p e = number_new waits_of false ps h p (omega (arith, e, sized)) ∙ late
 
   picture_old : (p : ℕ) → On P p → operation P' p ≡ operation P p
   picture_old p o = ap (λ (y : Picture). y.operation) (kept_picture P x p o.1)
@@ -108,21 +120,21 @@ module _ (rs rs' : List ℕ) (P : List Picture) (x : Picture) (N : List Note) (n
   inputs_old : (p : ℕ) → On P p → inputs P' p ≡ inputs P p
   inputs_old p o = ap (λ (y : Picture). y.inputs) (kept_picture P x p o.1)
 
-  noted_all : (p : ℕ) → On P' p → noted N' p ≡ row (rep rs') P' p
+  noted_all : (p : ℕ) → On P' p → noted ps' p ≡ row (rep rs') P' p
   noted_all p op = go (old_or_new p op)
     where
-      go : On P p ⊎ (p ≡ suc (length P)) → noted N' p ≡ row (rep rs') P' p
+      go : On P p ⊎ (p ≡ suc (length P)) → noted ps' p ≡ row (rep rs') P' p
       go (inl o) = row_old p o ∙ (w.going.rows p o ∙ (sym (rows_old (inputs P p) (inputs_on P w.ready.ordered p o)) ∙ ap (map (rep rs')) (sym (inputs_old p o))))
-      go (inr e) = number_new row_of [] N note p (omega (arith, e, sized)) ∙ (own_row ∙ ap (λ (y : Picture). map (rep rs') y.inputs) (sym (new_picture P x p e)))
+      go (inr e) = number_new row_of [] ps h p (omega (arith, e, sized)) ∙ (own_row ∙ ap (λ (y : Picture). map (rep rs') y.inputs) (sym (new_picture P x p e)))
 
-  old_one : (p : ℕ) → On P' p → waits N' p ≡ false → On P p
+  old_one : (p : ℕ) → On P' p → waits ps' p ≡ false → On P p
   old_one p op h = go (old_or_new p op)
     where
       go : On P p ⊎ (p ≡ suc (length P)) → On P p
       go (inl o) = o
-      go (inr e) = absurd (both_ways (waits N' p) h (wait_new p e))
+      go (inr e) = absurd (both_ways (waits ps' p) h (wait_new p e))
 
-  posted : Posted (rep rs') P' (noted N') m (waits N') Every
+  posted : Posted (rep rs') P' (noted ps') m (waits ps') Every
   posted =
       record {
         finds = λ p op h b. let o = old_one p op h in let k = w.going.posted.finds p o (sym (wait_old p o) ∙ h) tt in (k.0, ap₂ m (picture_old p o) (row_old p o) ∙ k.1);
@@ -134,9 +146,28 @@ module _ (rs rs' : List ℕ) (P : List Picture) (x : Picture) (N : List Note) (n
             old q b.0 ∙ (w.going.posted.meets p q o (sym (wait_old p o) ∙ h) e ∙ sym (old p o));
       }
 
-  pub grown_working : Working rs' (P ++ x ∷ []) (N ++ note ∷ []) m J
-  grown_working = record { ready = ready; books = books; going = record { sized = length_push N note ∙ omega (arith, sized, longer P x); rows = noted_all; posted = posted } }
+  pub grown_working : Working rs' (ps ++ h ∷ []) m J
+  grown_working =
+      record {
+        ready = subst (Ready rs') (sym pushed) ready;
+        books = subst (λ (Q : List Picture). Books rs' Q J) (sym pushed) books;
+        going = going_noted (rep rs') P' ps' m pushed noted_all posted;
+      }
 
-  -- what was together is together
-  pub grown_coarser : (p q : ℕ) → On P p → On P q → rep rs p ≡ rep rs q → rep rs' p ≡ rep rs' q
-  grown_coarser p q op oq e = old p op ∙ (e ∙ sym (old q oq))
+-- the same, as it is drawn
+pub drawn_working : (rs rs' us : List ℕ) (ps qs : List Held) (h : Held) (m : ℕ → List ℕ → Option ℕ) (J : List Join) (n : ℕ) → Working rs ps m J → Settled rs → length ps < 1024 → n ≡ length rs + 1 → rs' ≡ rs ++ n ∷ [] →
+    Fed (length ps) h → row_of h ≡ map (rep rs') (drawn h).inputs → h.waits ≡ true → qs ≡ ps ++ h ∷ [] → us ≡ rs' → Working us qs m J
+drawn_working rs rs' us ps qs h m J n w set few is-n grown fed own late pushed same =
+    let l = length-map ps drawn in
+    let on : All (On (sheet ps)) (drawn h).inputs = All-weaker (Upto (length ps)) (On (sheet ps)) (λ x u. (u.0, omega (arith, u.1, l))) (cells_of h.inputs) fed in
+    let k = length-take h.inputs.len h.inputs.cells in
+    subst₂ (λ (ts : List ℕ) (xs : List Held). Working ts xs m J) (sym same) (sym pushed)
+    (grown_working rs rs' ps h m J n w set few is-n grown on (omega (arith, k, h.inputs.short)) own late)
+
+-- what was together is together once a picture is drawn
+pub drawn_coarser : (rs rs' : List ℕ) (P : List Picture) (x : Picture) (J J' : List Join) → Books rs P J → Books rs' (P ++ x ∷ []) J' → Grows (P ++ x ∷ []) Any J J' →
+    (p q : ℕ) → On P p → On P q → rep rs p ≡ rep rs q → rep rs' p ≡ rep rs' q
+drawn_coarser rs rs' P x J J' b b' g p q op oq e =
+    tracks_law (P ++ x ∷ []) (reasons J') (rep rs') b'.tracks p q
+    (subst (λ (K : List Join). JoinedBy (P ++ x ∷ []) (reasons K) p q) (sym g.is)
+    (joined_more (P ++ x ∷ []) J g.more p q (up P x (reasons J) p q (b.tracks.told p q op oq e))))

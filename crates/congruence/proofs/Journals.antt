@@ -38,27 +38,28 @@ within rs P r x o = (o.0, omega (arith, o.1, r.counted))
 pub inputs_on : (P : List Picture) → Ordered P → (p : ℕ) → On P p → All (On P) (inputs P p)
 inputs_on P o p on = All-weaker (λ i. (1 ≤ i) × (i < p)) (On P) (λ i h. (h.0, omega (arith, h.1, on.1))) (inputs P p) (o p on).1
 
--- ONE JOIN
-module _ (rs rs' : List ℕ) (P : List Picture) (J : List Join) (j : Join) (r : Ready rs P) (b : Books rs P J) (a : Apart rs P j) (u : Unites j.left j.right rs rs') where
-  joins : Joins (rep rs) (rep rs') (length P) j.left j.right
-  joins = subst (λ (n : ℕ). Joins (rep rs) (rep rs') n j.left j.right) r.counted
-      (unites_joins j.left j.right rs rs' (within rs P r j.left a.left_on) (within rs P r j.right a.right_on) a.apart u)
+pub ready_join : (rs rs' : List ℕ) (P : List Picture) (j : Join) → Ready rs P → Unites j.left j.right rs rs' → Ready rs' P
+ready_join rs rs' P j r u = record { counted = united_length j.left j.right rs rs' u ∙ r.counted; few = r.few; ordered = r.ordered }
 
-  pub ready_join : Ready rs' P
-  ready_join = record { counted = united_length j.left j.right rs rs' u ∙ r.counted; few = r.few; ordered = r.ordered }
+-- ONE JOIN
+module _ (rs rs' : List ℕ) (P : List Picture) (J : List Join) (j : Join) (r : length rs ≡ length P) (b : Books rs P J) (a : Apart rs j) (u : Unites j.left j.right rs rs') where
+  left-on : On P j.left
+  left-on = (a.left_on.0, omega (arith, a.left_on.1, r))
+
+  right-on : On P j.right
+  right-on = (a.right_on.0, omega (arith, a.right_on.1, r))
+
+  joins : Joins (rep rs) (rep rs') (length P) j.left j.right
+  joins = subst (λ (n : ℕ). Joins (rep rs) (rep rs') n j.left j.right) r (unites_joins j.left j.right rs rs' a.left_on a.right_on a.apart u)
 
   fewer : (k : ℕ) × (length P - length J ≡ suc k) × Parts (rep rs') (length P) k
-  fewer = parts_joined (rep rs) (rep rs') (length P) j.left j.right a.left_on.0 a.left_on.1 a.right_on.0 a.right_on.1 a.apart joins (length P - length J) b.classes
-
-  -- there is room in the journal
-  pub room_join : length J < length P
-  room_join = omega (arith, fewer.1)
+  fewer = parts_joined (rep rs) (rep rs') (length P) j.left j.right left-on.0 left-on.1 right-on.0 right-on.1 a.apart joins (length P - length J) b.classes
 
   pub books_join : Books rs' P (J ++ j ∷ [])
   books_join =
       record {
         tracks = subst (λ (S : List Reason). Tracks P S (rep rs')) (sym (reasons_more J j)) (tracks_more_law P (reasons J) (reason_of j) (rep rs) (rep rs') b.tracks
-            (subst (On P) (sym el) a.left_on) (subst (On P) (sym er) a.right_on)
+            (subst (On P) (sym el) left-on) (subst (On P) (sym er) right-on)
             (subst (λ (x : ℕ). Joins (rep rs) (rep rs') (length P) x (right (reason_of j))) (sym el) (subst (λ (x : ℕ). Joins (rep rs) (rep rs') (length P) j.left x) (sym er) joins)));
         few = omega (arith, fewer.1, length_push J j);
         classes = subst (Parts (rep rs') (length P)) (omega (arith, fewer.1, length_push J j)) fewer.2;
@@ -71,7 +72,7 @@ module _ (rs rs' : List ℕ) (P : List Picture) (J : List Join) (j : Join) (r : 
       er = right_is j.left j.right j.cause
 
 -- what is apart is not joined by the journal
-pub not_joined : (rs : List ℕ) (P : List Picture) (J : List Join) (j : Join) → Books rs P J → Apart rs P j → ¬ JoinedBy P (reasons J) (left (reason_of j)) (right (reason_of j))
+pub not_joined : (rs : List ℕ) (P : List Picture) (J : List Join) (j : Join) → Books rs P J → Apart rs j → ¬ JoinedBy P (reasons J) (left (reason_of j)) (right (reason_of j))
 not_joined rs P J j b a l =
     a.apart (ap (rep rs) (sym (left_is j.left j.right j.cause)) ∙ (tracks_law P (reasons J) (rep rs) b.tracks _ _ l ∙ ap (rep rs) (right_is j.left j.right j.cause)))
 
@@ -79,7 +80,7 @@ not_joined rs P J j b a l =
 pub grows_none : (P : List Picture) (Q : List Entry → Type 0) (J : List Join) → Grows P Q J J
 grows_none P Q J = record { more = []; is = sym (append-nil J); derives = λ E q d. d }
 
-pub grows_join : (rs : List ℕ) (P : List Picture) (Q : List Entry → Type 0) (J J' : List Join) (j : Join) → Books rs P J' → Apart rs P j →
+pub grows_join : (rs : List ℕ) (P : List Picture) (Q : List Entry → Type 0) (J J' : List Join) (j : Join) → Books rs P J' → Apart rs j →
     ((E : List Entry) → Q E → Fits P E (reasons J') (reason_of j)) → Grows P Q J J' → Grows P Q J (J' ++ j ∷ [])
 grows_join rs P Q J J' j b a fit g =
     record {
@@ -119,8 +120,14 @@ twins_fit rs P J j r b t c E =
       ),
     )
 
-pub twins_are_apart : (rs : List ℕ) (P : List Picture) (j : Join) → TwinsApart (rep rs) P j.left j.right → Apart rs P j
-twins_are_apart rs P j t = record { left_on = t.left_on; right_on = t.right_on; apart = t.apart }
+pub twins_are_apart : (rs : List ℕ) (P : List Picture) (j : Join) → Ready rs P → TwinsApart (rep rs) P j.left j.right → Apart rs j
+twins_are_apart rs P j r t = record { left_on = within rs P r j.left t.left_on; right_on = within rs P r j.right t.right_on; apart = t.apart }
+
+-- a join of two twins
+pub grows_twins : (rs : List ℕ) (P : List Picture) (J J' J'' : List Join) (j : Join) → Ready rs P → Books rs P J' → TwinsApart (rep rs) P j.left j.right → j.cause ≡ By-twins →
+    Grows P Any J J' → J'' ≡ J' ++ j ∷ [] → Grows P Any J J''
+grows_twins rs P J J' J'' j r b t c g e =
+    subst (Grows P Any J) (sym e) (grows_join rs P Any J J' j b (twins_are_apart rs P j r t) (λ E q. twins_fit rs P J' j r b t c E) g)
 
 -- what was together stays together
 all_front : {X : Type 0} (Q : X → Type 0) (xs ys : List X) → All Q (xs ++ ys) → All Q xs

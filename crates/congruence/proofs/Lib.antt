@@ -1,11 +1,14 @@
 pub mod Rows
 pub mod Options
+pub mod Inwards
 pub mod Moves
 pub mod Journals
 pub mod Pigeons
 pub mod Posts
-pub mod Sweeps
 pub mod Fusing
+pub mod Sweeps
 pub mod Replays
 pub mod Resting
 pub mod Growing
+pub mod Tallies
+pub mod Tiers

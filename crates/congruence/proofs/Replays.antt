@@ -5,24 +5,25 @@ use Rattle.std.proofs.lemmas.Bool.{cases_eq, both_ways}
 use Rattle.std.proofs.lemmas.List.FromFn.{map-range_with_len_more, get_or-range_with_len}
 use Rattle.std.proofs.lemmas.List.Elements.{All-get_or, All-nil, All-cons, All-head, All-tail}
 use Rattle.std.proofs.lemmas.List.{map-id, take_more, take-take, take-map, get_or-take, get_or-map, length-take, length-map}
-use Rattle.theory.specs.Sheet.{Picture, Entry, On}
+use Rattle.theory.specs.Sheet.{Picture, Entry, On, picture}
 use Rattle.theory.specs.Reasons.{Reason, left, right, JoinedBy, Derivation}
 use Rattle.theory.specs.Journal.{Tracks}
 use Rattle.theory.specs.Parts.{Parts}
 use Rattle.theory.proofs.Parts.{parts_alone}
 use Rattle.theory.proofs.Slices.{l_refl, l_more}
 use Rattle.keepers.specs.Meaning.{rep, Unites}
+use Rattle.keepers.specs.Reps.{united_length}
 use Rattle.indexes.specs.Meaning.{Lead, held}
 use Rattle.congruence.specs.declared.journal.Join.{Join}
 use Rattle.congruence.specs.declared.picture.Picture.{Picture as Held}
-use Rattle.congruence.specs.declared.picture.Note.{Note}
 use Rattle.congruence.specs.Drawn.{drawn, sheet, reason_of, reasons}
-use Rattle.congruence.specs.Working.{Ready, Apart, Books, Fresh, Placed}
+use Rattle.congruence.specs.Working.{Apart, Books, Fresh, Placed}
 use Rattle.congruence.specs.Waiting.{row, noted, waits, Noted, Going}
+use Rattle.congruence.proofs.Fusing.{going_noted}
 use Rattle.congruence.proofs.Options.{none_some}
-use Rattle.congruence.proofs.Journals.{left_is, right_is, ready_join, books_join}
+use Rattle.congruence.proofs.Journals.{left_is, right_is, books_join}
 use Rattle.congruence.proofs.Posts.{at_set, at_other}
-use Rattle.congruence.proofs.Sweeps.{row_of, waits_of, picture_at}
+use Rattle.congruence.proofs.Sweeps.{row_of, waits_of, picture_at, sheet_set}
 
 -- one number more
 pub counting_more : (n : ℕ) → range_with_len 1 (n + 1) ≡ range_with_len 1 n ++ (n + 1) ∷ []
@@ -47,22 +48,22 @@ books_none P rs e =
     at x o = ap (λ (ts : List ℕ). rep ts x) e ∙ alone (length P) x o.0 o.1
 
 -- ONE JOIN MADE AGAIN
-module _ (P : List Picture) (J : List Join) (rs : List ℕ) (i : ℕ) (j : Join) (r : Ready rs P) (b : Books rs P (take i J))
+module _ (P : List Picture) (J : List Join) (rs : List ℕ) (i : ℕ) (j : Join) (r : length rs ≡ length P) (b : Books rs P (take i J))
     (placed : All (Placed P) J) (fresh : Fresh P J) (l : i < length J) (is : j ≡ get_or J i j) where
   here : Placed P j
   here = subst (Placed P) (sym is) (All-get_or (Placed P) J i j l placed)
 
-  pub replay_apart : Apart rs P j
+  pub replay_apart : Apart rs j
   replay_apart =
       record {
-        left_on = here.0;
-        right_on = here.1;
+        left_on = (here.0.0, omega (arith, here.0.1, r));
+        right_on = (here.1.0, omega (arith, here.1.1, r));
         apart = λ e. fresh i j l (subst (λ (z : Join). JoinedBy P (reasons (take i J)) z.left z.right) is (b.tracks.told j.left j.right here.0 here.1 e));
       }
 
-  pub replay_more : (rs' : List ℕ) → Unites j.left j.right rs rs' → Ready rs' P × Books rs' P (take (i + 1) J)
+  pub replay_more : (rs' : List ℕ) → Unites j.left j.right rs rs' → (length rs' ≡ length P) × Books rs' P (take (i + 1) J)
   replay_more rs' u = (
-    ready_join rs rs' P (take i J) j r b replay_apart u,
+    united_length j.left j.right rs rs' u ∙ r,
     subst (Books rs' P) (ap (λ (z : Join). take i J ++ z ∷ []) is ∙ sym (take_more J i j l)) (books_join rs rs' P (take i J) j r b replay_apart u),
   )
 
@@ -100,31 +101,37 @@ tracked_placed P J f t = go J t.held
         All-cons (Placed P) j J (subst (On P) (left_is j.left j.right j.cause) h.0, subst (On P) (right_is j.left j.right j.cause) h.1) (go J t)
 
 -- ROWS NOTED ANEW
-module _ (ps : List Held) (f : ℕ → ℕ) (N : List Note) (i : ℕ) (item : Held) (new : Note) (l : i < length ps) (size : i < length N) (is : item ≡ get_or ps i item) where
-  pub renoted_rows : row_of new ≡ map f (drawn item).inputs → ((p : ℕ) → 1 ≤ p → p ≤ i → noted N p ≡ row f (sheet ps) p) → (p : ℕ) → 1 ≤ p → p ≤ i + 1 → noted (set N i new) p ≡ row f (sheet ps) p
-  renoted_rows e h p a b =
-      ⊎_elim
-      (λ q. subst (λ (y : ℕ). noted (set N i new) y ≡ row f (sheet ps) y) (sym q)
-      (at_set row_of [] N i new size ∙ (e ∙ ap (λ (x : Picture). map f x.inputs) (sym (picture_at ps i item l ∙ ap drawn (sym is))))))
-      (λ ne. at_other row_of [] N i p new ne ∙ h p a (omega (arith, b, ne)))
-      (cases_eq p (i + 1))
+-- the rows of the first i pictures are noted, and each of these waits
+pub record Renoted (f : ℕ → ℕ) (i : ℕ) (ps₀ ps : List Held) : Type 0 where
+  pub same : sheet ps ≡ sheet ps₀
+  pub rows : (p : ℕ) → 1 ≤ p → p ≤ i → noted ps p ≡ row f (sheet ps₀) p
+  pub late : (p : ℕ) → 1 ≤ p → p ≤ i → waits ps p ≡ true
 
-  pub renoted_waits : new.waits ≡ true → ((p : ℕ) → 1 ≤ p → p ≤ i → waits N p ≡ true) → (p : ℕ) → 1 ≤ p → p ≤ i + 1 → waits (set N i new) p ≡ true
-  renoted_waits e h p a b =
-      ⊎_elim
-      (λ q. ap (waits (set N i new)) q ∙ (at_set waits_of false N i new size ∙ e))
-      (λ ne. at_other waits_of false N i p new ne ∙ h p a (omega (arith, b, ne)))
-      (cases_eq p (i + 1))
+module _ (ps₀ ps : List Held) (f : ℕ → ℕ) (i : ℕ) (old new : Held) (w : Renoted f i ps₀ ps) (l : i < length ps) (is : old ≡ get_or ps i old) where
+  pub renoted_more : drawn new ≡ drawn old → row_of new ≡ map f (drawn old).inputs → new.waits ≡ true → Renoted f (i + 1) ps₀ (set ps i new)
+  renoted_more ed e ew =
+      record {
+        same = sheet_set ps i old new is ed ∙ w.same;
+        rows = λ p a b. ⊎_elim
+            (λ q. subst (λ (y : ℕ). noted (set ps i new) y ≡ row f (sheet ps₀) y) (sym q)
+            (at_set row_of [] ps i new l ∙ (e ∙ ap (λ (x : Picture). map f x.inputs) (sym own))))
+            (λ ne. at_other row_of [] ps i p new ne ∙ w.rows p a (omega (arith, b, ne)))
+            (cases_eq p (i + 1));
+        late = λ p a b. ⊎_elim
+            (λ q. ap (waits (set ps i new)) q ∙ (at_set waits_of false ps i new l ∙ ew))
+            (λ ne. at_other waits_of false ps i p new ne ∙ w.late p a (omega (arith, b, ne)))
+            (cases_eq p (i + 1));
+      }
+    where
+      own : picture (sheet ps₀) (i + 1) ≡ drawn old
+      own = ap (λ (Q : List Picture). picture Q (i + 1)) (sym w.same) ∙ (picture_at ps i old l ∙ ap drawn (sym is))
 
 -- where all wait the index is empty
-pub going_anew : (f : ℕ → ℕ) (P : List Picture) (N : List Note) (es : List Lead) → length N ≡ length P → Noted f P (noted N) → ((p : ℕ) → On P p → waits N p ≡ true) → es ≡ [] → Going f P N (held es)
-going_anew f P N es s n w e =
-    record {
-      sized = s;
-      rows = n;
-      posted = record {
-        finds = λ p o h b. absurd (both_ways (waits N p) h (w p o));
-        bears = λ o v q h. absurd (none_some (held es o v) q (ap (λ (t : List Lead). held t o v) e) h);
-        meets = λ p q o h k. absurd (both_ways (waits N p) h (w p o));
-      };
-    }
+pub going_anew : (f : ℕ → ℕ) (ps₀ ps : List Held) (es : List Lead) → sheet ps ≡ sheet ps₀ → Noted f (sheet ps₀) (noted ps) → ((p : ℕ) → On (sheet ps₀) p → waits ps p ≡ true) → es ≡ [] → Going f ps (held es)
+going_anew f ps₀ ps es s n w e =
+    going_noted f (sheet ps₀) ps (held es) s n
+    (record {
+      finds = λ p o h b. absurd (both_ways (waits ps p) h (w p o));
+      bears = λ o v q h. absurd (none_some (held es o v) q (ap (λ (t : List Lead). held t o v) e) h);
+      meets = λ p q o h k. absurd (both_ways (waits ps p) h (w p o));
+    })

@@ -14,8 +14,8 @@ use Rattle.theory.proofs.Parts.{parts_law}
 use Rattle.theory.proofs.Reasons.{chain_law}
 use Rattle.keepers.specs.Meaning.{rep}
 use Rattle.congruence.specs.declared.journal.Join.{Join}
-use Rattle.congruence.specs.declared.picture.Note.{Note}
-use Rattle.congruence.specs.Drawn.{reason_of, reasons}
+use Rattle.congruence.specs.declared.picture.Picture.{Picture as Held}
+use Rattle.congruence.specs.Drawn.{sheet, reason_of, reasons}
 use Rattle.congruence.specs.Working.{Together, Ready, Books, Twinned, Closes}
 use Rattle.congruence.specs.Working.{Lowest as Lowest-kept}
 use Rattle.congruence.specs.Waiting.{noted, waits, Idle, Working, Exact}
@@ -56,19 +56,19 @@ complete P E f t k x y c = eqb-true (f x) (f y) (c.2 (λ a b. eqb (f a) (f b)) c
         }
 
 -- AT REST
-pub rests : (rs : List ℕ) (P : List Picture) (E : List Entry) (N : List Note) (m : ℕ → List ℕ → Option ℕ) (J : List Join) → Working rs P N m J → Idle P N → Derivation P E [] (reasons J) →
-    All (Keeps (Together (rep rs))) E → Closes P E (rep rs)
-rests rs P E N m J w i d k x y ox oy = (
-  sound rs P E J w.books d x y ox oy,
-  complete P E (rep rs) (posted_twinned (rep rs) P (noted N) m (waits N) w.going.posted w.going.rows i) k x y,
+pub rests : (rs : List ℕ) (ps : List Held) (E : List Entry) (m : ℕ → List ℕ → Option ℕ) (J : List Join) → Working rs ps m J → Idle ps → Derivation (sheet ps) E [] (reasons J) →
+    All (Keeps (Together (rep rs))) E → Closes (sheet ps) E (rep rs)
+rests rs ps E m J w i d k x y ox oy = (
+  sound rs (sheet ps) E J w.books d x y ox oy,
+  complete (sheet ps) E (rep rs) (posted_twinned (rep rs) (sheet ps) (noted ps) m (waits ps) w.going.posted w.going.rows i) k x y,
 )
 
 -- and the index is exact
-pub exact : (rs : List ℕ) (P : List Picture) (N : List Note) (m : ℕ → List ℕ → Option ℕ) (J : List Join) → Working rs P N m J → Idle P N → Exact (rep rs) P m
-exact rs P N m J w i =
+pub exact : (rs : List ℕ) (ps : List Held) (m : ℕ → List ℕ → Option ℕ) (J : List Join) → Working rs ps m J → Idle ps → Exact (rep rs) (sheet ps) m
+exact rs ps m J w i =
     let g = w.going in
     record {
-      finds = λ p o. let k = g.posted.finds p o (i p o) tt in (k.0, ap (m (operation P p)) (sym (g.rows p o)) ∙ k.1);
+      finds = λ p o. let k = g.posted.finds p o (i p o) tt in (k.0, ap (m (operation (sheet ps) p)) (sym (g.rows p o)) ∙ k.1);
       bears = λ o v q h. let b = g.posted.bears o v q h in (b.0, b.2, sym (g.rows q b.0) ∙ b.3);
     }
 

@@ -1,3 +1,4 @@
 pub mod Drawn
 pub mod Working
 pub mod Waiting
+pub mod Whole

@@ -7,12 +7,9 @@ pub mod picture;
 pub mod journal;
 // representatives of pictures and of rows
 pub mod rooting;
-// two classes made one
-pub mod merging;
-// twins put together
-pub mod settling;
-// classes made again from the journal
-pub mod restoring;
+// pictures and the classes that their joins force
+pub mod congruence;
 
+pub use congruence::Congruence;
 pub use journal::{Cause, Join};
-pub use picture::{Note, Picture};
+pub use picture::Picture;

@@ -1,10 +1,11 @@
-ghost use Rattle.std.specs.Prelude.{◌≡◌, ℕ, ◌+◌, ◌<◌, ◌≤◌, List, map, length, All, ◌==◌};
-ghost use Rattle.keepers.specs.Meaning.{rep, Within, Upto, class_count};
+ghost use Rattle.std.specs.Prelude.{◌≡◌, ℕ, ◌+◌, ◌<◌, ◌≤◌, ◌≢◌, List, map, length, All, ◌==◌};
+ghost use Rattle.keepers.specs.Meaning.{rep, Within, Upto, Unites, class_count};
 ghost use Rattle.indexes.specs.Rows.{cells_of};
 ghost use Rattle.congruence.specs.Working.{Lowest};
 
+use crate::journal::Join;
 use indexes::Row;
-use keepers::Keeper;
+use keepers::{Keeper, Outcome};
 
 // The representative of a picture.
 pub fn root<K: Keeper>(k: &mut K, p: u16) -> u16
@@ -72,4 +73,17 @@ pub fn classes<K: Keeper>(k: &mut K, n: u16) -> u16
         }
     }
     c
+}
+
+// Makes the two classes of a join one.
+pub fn unite<K: Keeper>(k: &mut K, join: &Join)
+    requires on { Within (K.reps k.old) join.now.left × Within (K.reps k.old) join.now.right }
+    requires apart { rep (K.reps k.old) join.now.left ≢ rep (K.reps k.old) join.now.right }
+    ensures { Unites join.now.left join.now.right (K.reps k.old) (K.reps k.new) }
+{
+    match k.join(join.left, join.right) {
+        Ok(Outcome::Merged) => {}
+        Ok(Outcome::Already) => unreachable(),
+        Err(_) => unreachable(),
+    }
 }

@@ -1,0 +1,8 @@
+use Rattle.indexes.specs.Meaning.{held}
+use Rattle.congruence.proofs.Sweeps.{Walked}
+use Rattle.congruence.proofs.congruence.merging.withdraw_all.Given as goal
+
+abbrev pub invariant-loop-picture : goal.invariant-loop-picture
+invariant-loop-picture g l =
+    let found = g.I.Index in
+    Walked l.lost l.heir l.picture-index l.initial.pictures (held (found.leads l.initial.index)) l.pictures (held (found.leads l.index))

@@ -1,0 +1,42 @@
+use Rattle.std.proofs.Common.{◌≡◌, ℕ, true, List, map, length, get_or, All, sym, refl, ap, ◌∙◌, subst, arith}
+use Rattle.std.proofs.lemmas.List.Elements.{All-get_or}
+use Rattle.std.proofs.lemmas.List.{length-map}
+use Rattle.keepers.specs.Meaning.{rep, Upto}
+use Rattle.indexes.specs.Rows.{cells_of}
+use Rattle.congruence.specs.declared.picture.Picture.{Picture as Held}
+use Rattle.congruence.specs.Drawn.{drawn}
+use Rattle.congruence.specs.Working.{Fed}
+use Rattle.congruence.proofs.Tiers.{counted_again}
+use Rattle.congruence.proofs.Replays.{renoted_more}
+use Rattle.congruence.proofs.congruence.restoring.renote.Goals as goal
+
+pub roots-picture-requires : goal.roots-picture-requires
+roots-picture-requires g c =
+    let l = c.loop-picture in
+    let rs = g.K.Keeper.reps l.k in
+    let a = counted_again (g.K.Keeper.reps c.args.k.now) rs c.args.pictures.now l.pictures c.requires (ap length l.invariant.same) l.invariant.renoted.same in
+    let f = All-get_or (Fed (length l.pictures)) l.pictures l.picture-index c.picture-item.result (omega arith) a.fed in
+    subst (λ (n : ℕ). All (Upto n) (cells_of (get_or l.pictures l.picture-index c.picture-item.result).inputs)) (sym a.counted) f
+
+pub loop-picture-preserved : goal.loop-picture-preserved
+loop-picture-preserved g c =
+    let l = c.loop-picture in
+    let f = rep (g.K.Keeper.reps c.args.k.now) in
+    let old = get_or l.pictures l.picture-index c.picture-item.result in
+    let new : Held = record { op = old.op; inputs = old.inputs; row = c.roots-picture.result; waits = true } in
+    record {
+      same = c.roots-picture.ensures.same ∙ l.invariant.same;
+      renoted = renoted_more c.args.pictures.now l.pictures f l.picture-index old new l.invariant.renoted (omega arith) (ap (λ (d : Held). get_or l.pictures l.picture-index d) c.picture-item.is) refl
+          (c.roots-picture.ensures.answer ∙ ap (λ (ts : List ℕ). map (rep ts) (cells_of old.inputs)) l.invariant.same) refl;
+    }
+
+pub returns : goal.returns
+returns g c =
+    let w = c.loop-picture.invariant.renoted in
+    let n = length-map c.args.pictures.now drawn in
+    record {
+      same = c.loop-picture.invariant.same;
+      sheet = w.same;
+      rows = λ p o. w.rows p o.0 (omega (arith, o.1, n, c.loop-picture-test.false));
+      waits = λ p o. w.late p o.0 (omega (arith, o.1, n, c.loop-picture-test.false));
+    }

@@ -1,0 +1,12 @@
+use Rattle.std.proofs.Common.{◌≡◌, length, take}
+use Rattle.congruence.specs.Drawn.{sheet}
+use Rattle.congruence.specs.Working.{Books}
+use Rattle.congruence.proofs.congruence.restoring.replay.Given as goal
+
+abbrev pub invariant-loop-join : goal.invariant-loop-join
+invariant-loop-join g l =
+    let rs = g.K.Keeper.reps l.k in
+    record {
+      counted : length rs ≡ length (sheet l.pictures);
+      books : Books rs (sheet l.pictures) (take l.join-index l.journal);
+    }

@@ -1,0 +1,29 @@
+ghost use Rattle.std.specs.Prelude.{◌≤◌, vec_capacity};
+
+use crate::journal::Join;
+use crate::picture::Picture;
+use indexes::Index;
+use keepers::Keeper;
+
+// Pictures, and the classes that their joins force. The classes are the keeper's; the index leads from the signatures of the pictures to pictures that
+// bear them; the journal has the joins that made the classes, in order.
+#[derive(Drop)]
+pub struct Congruence<K: Keeper, I: Index> {
+    keeper: K,
+    index: I,
+    pictures: Vec<Picture>,
+    journal: Vec<Join>,
+    ghost picture_room: { 1024 ≤ vec_capacity pictures },
+    ghost journal_room: { 1024 ≤ vec_capacity journal },
+}
+
+// what it is put together from, and one picture more
+pub mod making;
+// what is asked of it
+pub mod asking;
+// two classes made one
+pub mod merging;
+// twins put together
+pub mod settling;
+// classes made again from the journal
+pub mod restoring;
