@@ -1,4 +1,4 @@
-use keepers::{Keeper, KeeperFault, Links, Relabel, classes, is_same, join_counted};
+use keepers::{Keeper, KeeperFault, Links, Relabel, classes, is_same, join_counted, populate};
 use small::Small;
 use std::process::Abort;
 use std::test::Fail;
@@ -20,22 +20,11 @@ fn answer<K: Keeper>(k: &mut K, call: Call) -> u16 {
             Ok(0)
         }
         Call::Grow => k.grow(),
-        Call::Join(p, q) => number(join_counted(k, p, q)),
-        Call::Same(p, q) => truth(is_same(k, p, q)),
+        Call::Join(p, q) => join_counted(k, p, q).map(u16::from),
+        Call::Same(p, q) => is_same(k, p, q).map(u16::from),
         Call::Classes => Ok(classes(k)),
     };
-    match answered {
-        Ok(n) => n,
-        Err(fault) => 100 + u16::from(fault.number()),
-    }
-}
-
-fn number(r: Result<u8, KeeperFault>) -> Result<u16, KeeperFault> {
-    Ok(u16::from(r?))
-}
-
-fn truth(r: Result<bool, KeeperFault>) -> Result<u16, KeeperFault> {
-    Ok(u16::from(r?))
+    answered.unwrap_or_else(|fault| 100 + u16::from(fault.number()))
 }
 
 // Each call with its answer.
@@ -72,6 +61,7 @@ fn run<K: Keeper>(rt: &impl Abort, k: &mut K) {
         assert_eq!(rt; answer(k, call), expected);
     }
     fill(rt, k);
+    refill(rt, k);
 }
 
 // Grows to the capacity, and no further.
@@ -81,6 +71,15 @@ fn fill<K: Keeper>(rt: &impl Abort, k: &mut K) {
     }
     assert_eq!(rt; answer(k, Call::Grow), 103);
     assert_eq!(rt; answer(k, Call::Join(1, K::capacity())), 1);
+}
+
+// Pictures that are each alone again, and no more than the capacity.
+fn refill<K: Keeper>(rt: &impl Abort, k: &mut K) {
+    assert_eq!(rt; populate(k, 3), Ok(()));
+    assert_eq!(rt; answer(k, Call::Classes), 3);
+    assert_eq!(rt; answer(k, Call::Same(1, 3)), 0);
+    assert_eq!(rt; populate(k, 5000), Err(KeeperFault::Full));
+    assert_eq!(rt; answer(k, Call::Classes), K::capacity());
 }
 
 #[test]

@@ -1,13 +1,13 @@
 -- What becomes of the roots where a link is shortened, a root is linked to another, or a picture is added. Assumes nothing.
 use Rattle.std.specs.Prelude.{◌≡◌, ℕ, zero, suc, ◌+◌, ◌<◌, ◌≤◌, ◌≢◌, List, [], ◌∷◌, ◌++◌, map, length, get_or, slice_index_or, slice_set, refl}
 use Rattle.std.proofs.Common.{sym, ◌∙◌, ap, subst, ⊎_elim, add-one, arith, length-set}
-use Rattle.std.proofs.lemmas.List.{get_or-set_same, get_or-set_other}
+use Rattle.std.proofs.lemmas.List.{get_or-set_same, get_or-set_other, get_or_append_left, get_or_push, length_push}
 use Rattle.std.proofs.lemmas.List.FromFn.{map-range_with_len_more}
 use Rattle.std.specs.List.{range_with_len}
 use Rattle.std.proofs.lemmas.Bool.{cases_eq}
 use Rattle.keepers.specs.declared.link.Link.{Link}
 use Rattle.keepers.specs.Meaning.{Upto, moved, class_count}
-use Rattle.keepers.specs.Links.{bare, parent, rank, climb, root, roots, Rising, Low, Table}
+use Rattle.keepers.specs.Links.{bare, parent, rank, climb, root, roots, Rising, Low, Table, pictures}
 use Rattle.keepers.specs.Reps.{moved_hit, moved_miss}
 use Rattle.keepers.specs.Drops.{moved_ends}
 use Rattle.keepers.specs.ClassCounts.{classes_few, classes_push}
@@ -240,14 +240,14 @@ module _ (n : ℕ) (ls : List Link) (t : Table n ls) (heir lost : ℕ) (wh : Upt
 
 -- ONE PICTURE MORE, WHICH LEADS TO ITSELF
 abbrev pub grown : List Link → ℕ → List Link
-grown ls n = slice_set ls (n + 1) (record { parent = n + 1; rank = 0 })
+grown ls n = ls ++ record { parent = n + 1; rank = 0 } ∷ []
 
-module _ (n : ℕ) (ls : List Link) (t : Table n ls) (l : n + 1 < length ls) where
+module _ (n : ℕ) (ls : List Link) (t : Table n ls) (l : length ls ≡ n + 1) where
   old : (y : ℕ) → Upto n y → slice_index_or (grown ls n) y bare ≡ slice_index_or ls y bare
-  old y w = get_or-set_other ls (n + 1) y (record { parent = n + 1; rank = 0 }) bare (omega arith)
+  old y w = get_or_append_left ls (record { parent = n + 1; rank = 0 } ∷ []) bare y (omega arith)
 
   new : get_or (grown ls n) (n + 1) bare ≡ record { parent = n + 1; rank = 0 }
-  new = get_or-set_same ls (n + 1) (record { parent = n + 1; rank = 0 }) bare l
+  new = get_or_push ls (record { parent = n + 1; rank = 0 }) bare (n + 1) l
 
   old_parent : (y : ℕ) → Upto n y → parent (grown ls n) y ≡ parent ls y
   old_parent y w = ap (λ (k : Link). k.parent) (old y w)
@@ -296,7 +296,7 @@ module _ (n : ℕ) (ls : List Link) (t : Table n ls) (l : n + 1 < length ls) whe
       let k = classes_few (roots (n + 1) (grown ls n)) in
       let len = length-roots (n + 1) (grown ls n) in
       record {
-        room = simp length-set l;
+        room = let m = length_push ls (record { parent = n + 1; rank = 0 }) in omega arith;
         rising = grown_rising;
         low = λ y w.
             ⊎_elim
@@ -304,3 +304,20 @@ module _ (n : ℕ) (ls : List Link) (t : Table n ls) (l : n + 1 < length ls) whe
             (λ o. let u : Upto n y = (w.0, omega arith) in let r = old_rank y u in let m = t.low y u in omega arith)
             (cases_eq y (n + 1));
       }
+
+-- the table once p is added, the first number that is no picture
+module _ (ls ls' : List Link) (p : ℕ) (t : Table (pictures ls) ls) (e : p ≡ length ls) (is : ls' ≡ ls ++ record { parent = p; rank = 0 } ∷ []) where
+  next : p ≡ pictures ls + 1
+  next = let r = t.room in omega arith
+
+  adds : ls' ≡ grown ls (pictures ls)
+  adds = is ∙ ap (λ (m : ℕ). ls ++ record { parent = m; rank = 0 } ∷ []) next
+
+  count : pictures ls' ≡ pictures ls + 1
+  count = let a = ap length is in let m = length_push ls (record { parent = p; rank = 0 }) in let n = next in omega arith
+
+  pub pushed_table : Table (pictures ls') ls'
+  pushed_table = rw (count, adds) (grown_table (pictures ls) ls t (sym e ∙ next))
+
+  pub pushed_roots : roots (pictures ls') ls' ≡ roots (pictures ls) ls ++ p ∷ []
+  pushed_roots = rw (count, adds, next) (grown_roots (pictures ls) ls t (sym e ∙ next))

@@ -1,5 +1,5 @@
 -- A table of parent links: the link of picture x stands at place x, and a root leads to itself. Assumes nothing.
-use Rattle.std.specs.Prelude.{ℕ, zero, suc, ◌+◌, ◌<◌, ◌≤◌, ◌≢◌, List, map, length, slice_index_or}
+use Rattle.std.specs.Prelude.{ℕ, zero, suc, ◌+◌, ◌-◌, ◌<◌, ◌≤◌, ◌≢◌, List, map, length, slice_index_or}
 use Rattle.std.specs.List.{range_with_len}
 use Rattle.keepers.specs.declared.link.Link.{Link}
 use Rattle.keepers.specs.Meaning.{Upto, class_count}
@@ -15,6 +15,10 @@ parent ls x = (slice_index_or ls x bare).parent
 -- the rank of x
 abbrev pub rank : List Link → ℕ → ℕ
 rank ls x = (slice_index_or ls x bare).rank
+
+-- the number of pictures: place 0 is no picture's
+abbrev pub pictures : List Link → ℕ
+pictures ls = length ls - 1
 
 -- where so many links lead from x
 abbrev pub climb : List Link → ℕ → ℕ → ℕ

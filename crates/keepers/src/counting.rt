@@ -1,7 +1,7 @@
 // What follows from the promises of any keeper.
 ghost use Rattle.std.specs.Prelude.{◌≡◌, ℕ, ◌+◌, ◌≤◌, min, length};
 ghost use Rattle.keepers.specs.Meaning.{ends, class_count};
-ghost use Rattle.keepers.specs.Counting.{Asked, Lowered};
+ghost use Rattle.keepers.specs.Counting.{Asked, Lowered, Populated};
 
 use crate::keeper::{Keeper, KeeperFault};
 
@@ -28,15 +28,22 @@ pub fn classes<K: Keeper>(k: &mut K) -> u16
     ensures same { K.reps k.new ≡ K.reps k.old }
 {
     let mut count = 0;
-    for i in 0..u16::MAX {
-        match k.find(i + 1) {
-            Ok(r) => {
-                if r == i + 1 {
-                    count += 1;
-                }
-            }
-            Err(_) => return count,
-        }
+    for p in 1..=u16::MAX {
+        let Ok(r) = k.find(p) else {
+            return count;
+        };
+        count += u16::from(r == p);
     }
     count
+}
+
+// Forgets every picture, and then counts n of them, each alone; or as many as there is room for, and refuses where that is fewer than n.
+pub fn populate<K: Keeper>(k: &mut K, n: usize) -> Result<(), KeeperFault>
+    ensures { Populated K.limit n (K.reps k.new) result }
+{
+    k.reset();
+    for _ in 0..n {
+        k.grow()?;
+    }
+    Ok(())
 }

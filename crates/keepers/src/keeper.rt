@@ -6,9 +6,9 @@ ghost use Rattle.keepers.specs.Meaning.{Settled, Grown, Found, Joined, fault_num
 #[derive(Clone, Copy, PartialEq, Eq, Debug)]
 pub enum KeeperFault {
     // the picture is 0 or above the count
-    NoPicture,
+    NoPicture = 2,
     // the count has reached the capacity
-    Full,
+    Full = 3,
 }
 
 impl KeeperFault {
@@ -16,10 +16,7 @@ impl KeeperFault {
     pub fn number(self) -> u8
         ensures { result ≡ fault_number self }
     {
-        match self {
-            KeeperFault::NoPicture => 2,
-            KeeperFault::Full => 3,
-        }
+        self as u8
     }
 }
 
@@ -37,10 +34,7 @@ impl Outcome {
     pub fn number(self) -> u8
         ensures { result ≡ outcome_number self }
     {
-        match self {
-            Outcome::Already => 0,
-            Outcome::Merged => 1,
-        }
+        u8::from(self == Outcome::Merged)
     }
 }
 

@@ -12,7 +12,7 @@ pub mod links;
 // a link of that keeper
 mod link;
 
-pub use counting::{classes, is_same, join_counted};
+pub use counting::{classes, is_same, join_counted, populate};
 pub use keeper::{Keeper, KeeperFault, Outcome};
 pub use links::Links;
 pub use relabel::Relabel;

@@ -1,7 +1,7 @@
 // The keeper that writes each picture's representative into a table, and at a join relabels each member of one class.
 ghost use Rattle.std.specs.Prelude.{◌≡◌, ℕ, ◌<◌, ◌≤◌, [], map, IfOk, vec_len, vec_capacity};
 ghost use Rattle.keepers.specs.Meaning.{Settled, Found, moved};
-ghost use Rattle.std.proofs.Common.{rules, arith};
+ghost use Rattle.std.proofs.Common.{rules};
 
 use crate::keeper::{Keeper, KeeperFault, Outcome};
 use std::alloc::{AllocError, Global};
@@ -15,20 +15,22 @@ pub struct Relabel {
     ghost settled: { Settled labels.items },
 }
 
-// Every label `lost` becomes `heir`.
-fn relabel_all(labels: &mut Vec<u16>, lost: u16, heir: u16)
-    ensures items { labels.new.items ≡ map (moved lost heir) labels.old.items }
-    ensures len { vec_len labels.new ≡ vec_len labels.old }
-    ensures capacity { vec_capacity labels.new ≡ vec_capacity labels.old }
+// The representative of a picture, from a row with those of 1, 2, 3 and so on: what a find answers where they stand in a table.
+pub fn label_of(labels: &[u16], p: u16) -> Result<u16, KeeperFault>
+    ensures { Found p labels.now result }
 {
-    relabel_row(labels, lost, heir);
+    (p as usize)
+        .checked_sub(1)
+        .and_then(|i| labels.get(i))
+        .copied()
+        .ok_or(KeeperFault::NoPicture)
 }
 
 // Every label `lost` of a row becomes `heir`: what a join does to representatives that stand in a table.
 pub fn relabel_row(labels: &mut [u16], lost: u16, heir: u16)
     ensures { labels.new ≡ map (moved lost heir) labels.old }
 {
-    for x in labels.iter_mut() {
+    for x in labels {
         if *x == lost {
             *x = heir;
         }
@@ -43,17 +45,6 @@ impl Relabel {
         let labels = Vec::with_capacity(heap, 1024)?;
         Ok(Relabel { labels })
     }
-
-    // The label of a picture.
-    fn label(&self, p: u16) -> Result<u16, KeeperFault>
-        ensures { Found p self.now.labels.items result }
-    {
-        let i = p as usize;
-        if i == 0 || i > self.labels.len() {
-            return Err(KeeperFault::NoPicture);
-        }
-        Ok(self.labels[i - 1])
-    }
 }
 
 impl Keeper for Relabel {
@@ -61,9 +52,9 @@ impl Keeper for Relabel {
 
     ghost reps = { λ k. k.labels.items };
 
-    ghost range = { first_of (Prim.search rules, Prim.grind (arith, Self.row.coded.inj)) };
+    ghost range = { Prim.search rules };
 
-    ghost settled = { first_of (Prim.search rules, Prim.grind (arith, Self.row.coded.inj)) };
+    ghost settled = { λ k. k.settled };
 
     fn capacity() -> u16 {
         1024
@@ -83,16 +74,16 @@ impl Keeper for Relabel {
     }
 
     fn find(&mut self, p: u16) -> Result<u16, KeeperFault> {
-        self.label(p)
+        label_of(&self.labels, p)
     }
 
     fn join(&mut self, p: u16, q: u16) -> Result<Outcome, KeeperFault> {
-        let heir = self.label(p)?;
-        let lost = self.label(q)?;
+        let heir = self.find(p)?;
+        let lost = self.find(q)?;
         if heir == lost {
             return Ok(Outcome::Already);
         }
-        relabel_all(&mut self.labels, lost, heir);
+        relabel_row(&mut self.labels, lost, heir);
         Ok(Outcome::Merged)
     }
 }

@@ -1,79 +1,65 @@
 // A class keeper for sixteen pictures that lies in one array: an example of a keeper of your own.
 #![tactic(auto)]
 
-ghost use Rattle.std.specs.Prelude.{◌≡◌, ℕ, ◌≤◌, take};
-ghost use Rattle.keepers.specs.Meaning.{Settled, Found};
-ghost use Rattle.std.proofs.Common.{rules, arith};
+ghost use Rattle.std.specs.Prelude.{◌≡◌, []};
+ghost use Rattle.keepers.specs.Meaning.{Settled};
+ghost use Rattle.std.proofs.Common.{rules};
 
-use keepers::relabel::relabel_row;
+use arrayvec::ArrayVec;
+use keepers::relabel::{label_of, relabel_row};
 use keepers::{Keeper, KeeperFault, Outcome};
 
-// The representative of picture p, of 1 to n, stands at p - 1.
+// labels[p - 1] is the representative of picture p.
 #[derive(Drop)]
 pub struct Small {
-    labels: [u16; 16],
-    n: usize,
-    ghost few: { n ≤ 16 },
-    ghost settled: { Settled (take n labels) },
+    labels: ArrayVec<u16, 16>,
+    ghost settled: { Settled labels.items },
 }
 
 impl Small {
     // A keeper with no picture.
     pub fn new() -> Small
-        ensures { result.n ≡ 0 }
+        ensures { result.labels.items ≡ [] }
     {
         Small {
-            labels: [0; 16],
-            n: 0,
+            labels: ArrayVec::new(),
         }
-    }
-
-    // The label of a picture.
-    fn label(&self, p: u16) -> Result<u16, KeeperFault>
-        ensures { Found p (take self.now.n self.now.labels) result }
-    {
-        let i = p as usize;
-        if i == 0 || i > self.n {
-            return Err(KeeperFault::NoPicture);
-        }
-        Ok(self.labels[i - 1])
     }
 }
 
 impl Keeper for Small {
     ghost limit = { 16 };
 
-    ghost reps = { λ k. take k.n k.labels };
+    ghost reps = { λ k. k.labels.items };
 
-    ghost range = { first_of (Prim.search rules, Prim.grind (arith, Self.row.coded.inj)) };
+    ghost range = { Prim.search rules };
 
-    ghost settled = { first_of (Prim.search rules, Prim.grind (arith, Self.row.coded.inj)) };
+    ghost settled = { λ k. k.settled };
 
     fn capacity() -> u16 {
         16
     }
 
     fn reset(&mut self) {
-        self.n = 0;
+        self.labels.clear();
     }
 
     fn grow(&mut self) -> Result<u16, KeeperFault> {
-        if self.n == 16 {
+        if self.labels.is_full() {
             return Err(KeeperFault::Full);
         }
-        let p = self.n as u16 + 1;
-        self.labels[self.n] = p;
-        self.n += 1;
+        let p = self.labels.len() as u16 + 1;
+        self.labels.push(p);
         Ok(p)
     }
 
     fn find(&mut self, p: u16) -> Result<u16, KeeperFault> {
-        self.label(p)
+        label_of(&self.labels, p)
     }
 
     fn join(&mut self, p: u16, q: u16) -> Result<Outcome, KeeperFault> {
-        let heir = self.label(p)?;
-        let lost = self.label(q)?;
+        let heir = self.find(p)?;
+        let lost = self.find(q)?;
         if heir == lost {
             return Ok(Outcome::Already);
         }

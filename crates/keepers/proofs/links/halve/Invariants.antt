@@ -1,12 +1,16 @@
-use Rattle.std.proofs.Common.{◌≡◌, ◌≤◌}
+use Rattle.std.proofs.Common.{◌≡◌, ◌-◌}
 use Rattle.keepers.specs.Meaning.{Upto}
-use Rattle.keepers.specs.Links.{rank, root, roots, Table}
+use Rattle.keepers.specs.Links.{rank, root, roots, pictures, Table}
 use Rattle.keepers.proofs.links.halve.Given as goal
 
-abbrev pub invariant-loop-i : goal.invariant-loop-i
-invariant-loop-i l =
-    Table l.n l.links
-    × Upto l.n l.x
-    × (l._i ≤ rank l.links l.x)
-    × (roots l.n l.links ≡ roots l.n l.initial.links)
-    × (root l.n l.links l.x ≡ root l.n l.initial.links l.p)
+abbrev pub invariant-loop-x : goal.invariant-loop-x
+invariant-loop-x l =
+    let n = pictures l.initial.links in record {
+      table : Table n l.links;
+      on : Upto n l.x;
+      same : roots n l.links ≡ roots n l.initial.links;
+      end : root n l.links l.x ≡ root n l.initial.links l.p;
+    }
+
+abbrev pub decreases-loop-x : goal.decreases-loop-x
+decreases-loop-x l = pictures l.initial.links - rank l.links l.x

@@ -1,26 +1,31 @@
-use Rattle.std.proofs.Common.{◌≡◌, ℕ, ◌+◌, List, map, sym, refl, subst, arith}
+use Rattle.std.proofs.Common.{◌≡◌, ℕ, ◌+◌, List, map, sym, refl, subst, arith, length-set}
 use Rattle.keepers.specs.declared.link.Link.{Link}
 use Rattle.keepers.specs.Meaning.{moved}
-use Rattle.keepers.specs.Links.{rank, roots, Table}
+use Rattle.keepers.specs.Links.{rank, roots, pictures, Table}
 use Rattle.keepers.specs.Linking.{led, rank_fits, link_plain, link_raised}
 use Rattle.keepers.proofs.links.link.Goals.{then-links-heir, else-links-heir}
 use Rattle.keepers.proofs.links.link.Goals as goal
 
 pub overflow_add-above : goal.overflow_add-above
 overflow_add-above c =
-    let f = rank_fits c.args.n c.args.links.now c.requires.table c.args.heir c.args.lost c.requires.on.0 c.requires.on.1 c.requires.ends.0 c.requires.ends.1 c.requires.apart in
-    omega (arith, f, c.ranges.n)
+    let n : ℕ = pictures c.args.links.now in
+    let r = c.requires in
+    let f = rank_fits n c.args.links.now r.table c.args.heir c.args.lost r.on.0 r.on.1 r.ends.0 r.ends.1 r.apart in
+    omega arith
 
 pub returns : goal.returns
 returns c =
-    let n : ℕ = c.args.n in
     let ls = c.args.links.now in
+    let n : ℕ = pictures ls in
     let h : ℕ = c.args.heir in
     let o : ℕ = c.args.lost in
-    let fact : List Link → Type 0 = λ xs. Table n (led xs o h) × (roots n (led xs o h) ≡ map (moved o h) (roots n ls)) in
-    let all : fact c.if-links-heir.links =
+    let r = c.requires in
+    let fact : ℕ → List Link → Type 0 = λ m xs. Table m (led xs o h) × (roots m (led xs o h) ≡ map (moved o h) (roots n ls)) in
+    let all : fact n c.if-links-heir.links =
     elim c.if-links-heir.branch [
-      | then-links-heir w ↦ subst fact (sym w.links-is) (link_raised n ls c.requires.table h o c.requires.on.0 c.requires.on.1 c.requires.ends.0 c.requires.ends.1 c.requires.apart (rank ls o + 1) refl (omega (arith, w.if-links-heir.true)))
-      | else-links-heir w ↦ subst fact (sym w.links-is) (link_plain n ls c.requires.table h o c.requires.on.0 c.requires.on.1 c.requires.ends.0 c.requires.ends.1 c.requires.apart (omega (arith, w.if-links-heir.false)))
+      | then-links-heir w ↦ subst (fact n) (sym w.links-is) (link_raised n ls r.table h o r.on.0 r.on.1 r.ends.0 r.ends.1 r.apart (rank ls o + 1) refl (omega (arith, w.if-links-heir.true)))
+      | else-links-heir w ↦ subst (fact n) (sym w.links-is) (link_plain n ls r.table h o r.on.0 r.on.1 r.ends.0 r.ends.1 r.apart (omega (arith, w.if-links-heir.false)))
     ] in
-    record { table = all.0; moves = all.1 }
+    let e : pictures (led c.if-links-heir.links o h) ≡ n = simp length-set (omega arith) in
+    let now = subst (λ (m : ℕ). fact m c.if-links-heir.links) (sym e) all in
+    record { table = now.0; moves = now.1 }

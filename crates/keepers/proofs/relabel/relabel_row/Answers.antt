@@ -16,8 +16,8 @@ loop-x-preserved c =
     let old = c.args.labels.now in
     let l = c.loop-x in
     elim c.if-x-lost.branch [
-      | then-x-lost w ↦ over f old l.labels _ l.x-index _ (omega arith) (omega arith) l.invariant (moved_hit _ _ _ w.if-x-lost.true) w.labels-is
-      | else-x-lost w ↦ over f old l.labels _ l.x-index _ (omega arith) (omega arith) l.invariant (moved_miss _ _ _ w.if-x-lost.false) w.labels-is
+      | then-x-lost w ↦ over f old l.x-items _ l.x-index _ (omega arith) (omega arith) l.invariant (moved_hit _ _ _ w.if-x-lost.true) w.x-items-is
+      | else-x-lost w ↦ over f old l.x-items _ l.x-index _ (omega arith) (omega arith) l.invariant (moved_miss _ _ _ w.if-x-lost.false) w.x-items-is
     ]
 
 pub returns : goal.returns

@@ -1,41 +1,23 @@
-use Rattle.std.proofs.Common.{ℕ, List, vec_items, sym, refl, ap, subst, arith}
+use Rattle.std.proofs.Common.{List, vec_items, sym, subst, arith}
 use Rattle.std.proofs.lemmas.List.{with_items_is}
 use Rattle.keepers.specs.declared.link.Link.{Link}
 use Rattle.keepers.specs.Meaning.{Did}
-use Rattle.keepers.specs.Links.{roots, Rising, Low}
+use Rattle.keepers.specs.Links.{roots, pictures}
 use Rattle.keepers.specs.Roots.{length-roots}
 use Rattle.keepers.proofs.links.LinksKeeper.join.Goals as goal
 
-pub returns-then-p-eq0 : goal.returns-then-p-eq0
-returns-then-p-eq0 c =
-    let k = c.args.self.now in
-    let l = length-roots k.n (vec_items k.links) in (
-      (λ w. elim c.then-p-eq0.branch [
-        | goal.then-p-eq0-via-then-p-eq0 v ↦ omega arith
-        | goal.then-p-eq0-via-else-p-eq0+then-p-self v ↦ omega arith
-        | goal.then-p-eq0-via-else-p-eq0+else-p-self+then-q-eq0 v ↦ omega arith
-        | goal.then-p-eq0-via-else-p-eq0+else-p-self+else-q-eq0+then-q-self v ↦ omega arith
-      ]),
-      refl,
-      refl,
-    )
-
-pub invariant_of-self : goal.invariant_of-self
-invariant_of-self c =
-    let k = c.args.self.now in
-    let t = c.unite.ensures.table in
-    let e = with_items_is k.links c.unite.new.links (omega arith) in
-    record { room = k.room; few = k.few; rising = subst (Rising k.n) (sym e) t.rising; low = subst (Low k.n) (sym e) t.low }
+pub returns-then-not-has : goal.returns-then-not-has
+returns-then-not-has c =
+    elim c.then-not-has.branch [
+      | goal.then-not-has-via-then-not-has w ↦ grind (arith, length-roots)
+      | goal.then-not-has-via-else-not-has+then-not-has-2 w ↦ grind (arith, length-roots)
+    ]
 
 pub returns : goal.returns
 returns c =
     let k = c.args.self.now in
-    let ls = vec_items k.links in
-    let v = c.as_mut_slice.ensures.value in
+    let old = vec_items k.links in
+    let all : List Link → List Link → Type 0 = λ xs ys. Did c.args.p c.args.q (roots (pictures xs) xs) (roots (pictures ys) ys) c.unite.result in
     let e = with_items_is k.links c.unite.new.links (omega arith) in
-    let l = length-roots k.n ls in (
-      (omega arith, omega arith),
-      (omega arith, omega arith),
-      subst (λ (rs : List ℕ). Did c.args.p c.args.q (roots k.n ls) rs c.unite.result) (ap (roots k.n) (sym e))
-          (subst (λ (xs : List Link). Did c.args.p c.args.q (roots k.n xs) (roots k.n c.unite.new.links) c.unite.result) v c.unite.ensures.did),
-    )
+    let l = length-roots (pictures old) old in
+    (grind arith, grind arith, subst (all old) (sym e) (subst (λ (xs : List Link). all xs c.unite.new.links) c.deref_mut.ensures.value c.unite.ensures.did))
