@@ -3,4 +3,4 @@ use Rattle.theory.proofs.Growing.{add_law}
 use Rattle.theory.proofs.Small.{differ_law}
 
 pub returns : goal.returns
-returns c = (add_law, differ_law)
+returns c = record { add = add_law; differ = differ_law }
