@@ -1,6 +1,6 @@
 -- Marked elements, one more at a time. Assumes nothing.
-use Rattle.std.proofs.Common.{◌≡◌, ℕ, zero, suc, ◌+◌, ◌<◌, ◌≤◌, Bool, true, false, cond, List, [], ◌∷◌, ◌++◌, map, length, get_or, take, replicate, refl, ap, ◌∙◌, add-one, arith}
-use Rattle.std.proofs.lemmas.List.{append-nil}
+use Rattle.std.proofs.Common.{◌≡◌, ℕ, zero, suc, ◌+◌, ◌<◌, ◌≤◌, Bool, true, false, cond, List, [], ◌∷◌, ◌++◌, map, length, get_or, min, take, replicate, refl, ap, ◌∙◌, add-one, arith}
+use Rattle.std.proofs.lemmas.List.{append-nil, length-take}
 use Rattle.std.proofs.lemmas.Bool.{cond-true, cond-false}
 use Rattle.theory.specs.Slices.{kept}
 
@@ -37,6 +37,16 @@ kept_all (b ∷ bs) (x ∷ xs) zero l = absurd (omega arith)
 kept_all (true ∷ bs) (x ∷ xs) (suc i) l = ap (λ z. x ∷ z) (kept_all bs xs i (omega arith))
 kept_all (false ∷ bs) (x ∷ xs) (suc i) l = kept_all bs xs i (omega arith)
 
+-- nor does anything behind where marks or elements end
+pub kept_min : {X : Type 0} (bs : List Bool) (xs : List X) (i : ℕ) → i ≡ min (length xs) (length bs) → kept (take i bs) (take i xs) ≡ kept bs xs
+kept_min [] xs zero e = refl
+kept_min [] xs (suc i) e = refl
+kept_min (b ∷ bs) [] zero e = refl
+kept_min (b ∷ bs) [] (suc i) e = refl
+kept_min (b ∷ bs) (x ∷ xs) zero e = absurd (omega (arith, e))
+kept_min (true ∷ bs) (x ∷ xs) (suc i) e = ap (λ z. x ∷ z) (kept_min bs xs i (omega (arith, e)))
+kept_min (false ∷ bs) (x ∷ xs) (suc i) e = kept_min bs xs i (omega (arith, e))
+
 pub kept_map : {X Y : Type 0} (f : X → Y) (bs : List Bool) (xs : List X) → kept bs (map f xs) ≡ map f (kept bs xs)
 kept_map f [] xs = refl
 kept_map f (b ∷ bs) [] = refl
@@ -56,3 +66,7 @@ kept_few [] xs = omega arith
 kept_few (b ∷ bs) [] = omega arith
 kept_few (true ∷ bs) (x ∷ xs) = omega (arith, kept_few bs xs)
 kept_few (false ∷ bs) (x ∷ xs) = omega (arith, kept_few bs xs)
+
+-- no more are kept of the first ones than these are
+pub kept_few_of : {X : Type 0} (bs : List Bool) (xs : List X) (i : ℕ) → length (kept (take i bs) (take i xs)) ≤ i
+kept_few_of bs xs i = omega (arith, kept_few (take i bs) (take i xs), length-take i xs)

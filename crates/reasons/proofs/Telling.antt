@@ -1,4 +1,4 @@
--- Marked joins that are enough, once they are written. Assumes nothing.
+-- Joins that were chosen, once they are written. Assumes nothing.
 use Rattle.std.proofs.Common.{◌≡◌, ℕ, ◌≤◌, Bool, List, length, sym, ap, ◌∙◌, subst, arith}
 use Rattle.std.proofs.lemmas.List.{length-map}
 use Rattle.theory.specs.Sheet.{Picture}
@@ -11,13 +11,17 @@ use Rattle.reasons.specs.Table.{Rest, Chained, Explained}
 use Rattle.reasons.specs.Marks.{Chosen}
 use Rattle.reasons.proofs.Marked.{kept_map, kept_few}
 
-module _ (js : List Join) (bs : List Bool) (m : ℕ) (before after : List Step) (many : m ≡ length (kept bs js)) where
-  pub told_few : m ≤ length js
-  told_few = omega (arith, many, kept_few bs js)
+-- ks are the marked ones of the joins js
+module _ (js : List Join) (bs : List Bool) (ks : List Join) (is : ks ≡ kept bs js) where
+  pub told_few : length ks ≤ length js
+  told_few = omega (arith, ap length is, kept_few bs js)
 
-  module _ (ch : Chained (kept bs (reasons js)) before after) where
-    long : m ≡ length (kept bs (reasons js))
-    long = many ∙ sym (ap length (kept_map reason_of bs js) ∙ length-map (kept bs js) reason_of)
+  module _ (m : ℕ) (many : m ≡ length ks) (before after : List Step) (ch : Chained (reasons ks) before after) where
+    long : m ≡ length (reasons ks)
+    long = many ∙ sym (length-map ks reason_of)
+
+    same : reasons ks ≡ kept bs (reasons js)
+    same = ap reasons is ∙ sym (kept_map reason_of bs js)
 
     pub told-rest : Rest m before after
     told-rest = subst (λ (n : ℕ). Rest n before after) (sym long) ch.rest
@@ -27,7 +31,7 @@ module _ (js : List Join) (bs : List Bool) (m : ℕ) (before after : List Step) 
         let e = h E x in
         record {
           steps = kept bs (reasons js);
-          many = long;
+          many = long ∙ ap length same;
           explains = (slice_law P E (reasons js) x.0 bs e.0, e.1);
-          chained = ch;
+          chained = subst (λ T. Chained T before after) same ch;
         }

@@ -1,9 +1,10 @@
 -- What the host reads in its step table: a reason chain, one step to a cell. Assumes nothing.
-use Rattle.std.specs.Prelude.{◌≡◌, ℕ, suc, ◌-◌, ◌≤◌, cond, List, [], ◌∷◌, map, length, All, ◌==◌, slice_index_or}
+use Rattle.std.specs.Prelude.{◌≡◌, ℕ, suc, ◌-◌, ◌<◌, ◌≤◌, cond, List, [], ◌∷◌, map, length, All, ◌==◌, slice_index_or}
+use Rattle.std.specs.List.{range_with_len}
 use Rattle.theory.specs.Sheet.{Picture, Entry}
 use Rattle.theory.specs.Reasons.{Reason, by_entry, by_twins, Explains}
 use Rattle.chains.specs.Chain.{Chain}
-use Rattle.chains.specs.Thread.{first_of}
+use Rattle.chains.specs.Thread.{first_of, next_in}
 use Rattle.congruence.specs.declared.journal.Cause.{Cause}
 use Rattle.congruence.specs.declared.journal.Cause.TheVariants.{Entry as Numbered, Twins}
 use Rattle.congruence.specs.declared.journal.Join.{Join}
@@ -55,11 +56,22 @@ pub record Written (P : List Picture) (E : List Entry) (a b m : ℕ) (before aft
 abbrev pub Explained : List Picture → List Reason → ℕ → ℕ → ℕ → List Step → List Step → Type 0
 Explained P T a b m before after = (E : List Entry) → Explains P E a b T → Written P E a b m before after
 
--- the cell of two pictures that were joined for this cause, at the end of a chain
-abbrev pub cell_by : ℕ → ℕ → Cause → Step
-cell_by l r (Numbered k) = record { kind = 1; left = l; right = r; entry = k; next = 0 }
-cell_by l r Twins = record { kind = 2; left = l; right = r; entry = 0; next = 0 }
+-- the cell of two pictures that were joined for this cause, with this next
+abbrev pub cell_by : ℕ → ℕ → Cause → ℕ → Step
+cell_by l r (Numbered k) n = record { kind = 1; left = l; right = r; entry = k; next = n }
+cell_by l r Twins n = record { kind = 2; left = l; right = r; entry = 0; next = n }
 
--- the cell of a join, at the end of a chain
-abbrev pub cell_of : Join → Step
-cell_of j = cell_by j.left j.right j.cause
+-- the cell of a join
+abbrev pub cell_of : Join → ℕ → Step
+cell_of j n = cell_by j.left j.right j.cause n
+
+-- The first i joins stand in the cells from 1 on, and the other cells are as before.
+pub record Listed (joins : List Join) (before after : List Step) (i : ℕ) : Type 0 where
+  pub cells : (k : ℕ) (d : Join) (e : Step) → k < i → slice_index_or after k e ≡ cell_of (slice_index_or joins k d) 0
+  pub rest : Rest i before after
+
+-- The joins stand in the cells from 1 on, which are one chain in their order, and the other cells are as before.
+pub record Laid (joins : List Join) (before after : List Step) : Type 0 where
+  pub cells : (k : ℕ) (d : Join) (e : Step) → k < length joins → slice_index_or after k e ≡ cell_of (slice_index_or joins k d) (next_in (length joins) k)
+  pub rest : Rest (length joins) before after
+  pub path : Chain (map (λ c. c.next) after) (first_of (length joins)) (range_with_len 1 (length joins))

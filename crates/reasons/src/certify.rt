@@ -4,6 +4,7 @@ ghost use Rattle.congruence.specs.Drawn.{sheet, reason_of, reasons};
 ghost use Rattle.reasons.specs.Marks.{Enough, Alike, Stands, Absorbed};
 
 use crate::inputs::inputs_of;
+use crate::question::Question;
 use congruence::{Cause, Join, Picture};
 use keepers::{Keeper, is_same};
 
@@ -26,10 +27,7 @@ fn one_class<S: Keeper>(scratch: &mut S, x: u16, y: u16) -> bool
     ensures answer { result ≡ true → Alike (S.reps scratch.old) x y }
     ensures same { S.reps scratch.new ≡ S.reps scratch.old }
 {
-    match is_same(scratch, x, y) {
-        Ok(same) => same,
-        Err(_) => false,
-    }
+    is_same(scratch, x, y).unwrap_or(false)
 }
 
 // Whether two rows are in one class in pairs.
@@ -40,8 +38,8 @@ fn alike<S: Keeper>(scratch: &mut S, left: &[u16], right: &[u16]) -> bool
     if left.len() != right.len() {
         return false;
     }
-    for i in 0..left.len() {
-        if !one_class(scratch, left[i], right[i]) {
+    for (x, y) in left.iter().zip(right) {
+        if !one_class(scratch, *x, *y) {
             return false;
         }
     }
@@ -75,27 +73,18 @@ fn absorb<S: Keeper>(scratch: &mut S, pictures: &[Picture], join: &Join) -> bool
     scratch.join(join.left, join.right).is_ok()
 }
 
-// Whether the marked joins stand on one another, and join a and b.
-pub fn certify<S: Keeper>(
-    scratch: &mut S,
-    pictures: &[Picture],
-    journal: &[Join],
-    marks: &[bool],
-    a: u16,
-    b: u16,
-) -> bool
-    requires marked { length journal.now ≤ length marks.now }
-    ensures { result ≡ true → Enough (sheet pictures.now) (reasons journal.now) a b marks.now }
+// Whether the marked joins stand on one another, and join the two pictures.
+pub fn certify<S: Keeper>(scratch: &mut S, asked: &Question, marks: &[bool]) -> bool
+    requires { length asked.now.journal.now ≤ length marks.now }
+    ensures { result ≡ true → Enough (sheet asked.now.pictures.now) (reasons asked.now.journal.now) asked.now.a asked.now.b marks.now }
 {
-    if !prepare(scratch, pictures.len()) {
+    if !prepare(scratch, asked.pictures.len()) {
         return false;
     }
-    for i in 0..journal.len() {
-        if marks[i] {
-            if !absorb(scratch, pictures, &journal[i]) {
-                return false;
-            }
+    for (join, marked) in asked.journal.iter().zip(marks) {
+        if *marked && !absorb(scratch, asked.pictures, join) {
+            return false;
         }
     }
-    one_class(scratch, a, b)
+    one_class(scratch, asked.a, asked.b)
 }

@@ -1,6 +1,7 @@
 ghost use Rattle.std.specs.Prelude.{◌≡◌, ◌≤◌, vec_len, vec_capacity};
 
 use crate::forest::Forest;
+use congruence::Join;
 use keepers::Keeper;
 
 // Two pictures that have yet to be joined by marked joins.
@@ -16,10 +17,14 @@ struct Pair {
 pub struct Explainer<S: Keeper> {
     scratch: S,
     forest: Forest,
+    // whether each join of the journal is needed
     marks: Vec<bool>,
     todo: Vec<Pair>,
+    // the joins that were marked, in order
+    chosen: Vec<Join>,
     ghost marked: { vec_len marks ≡ 1024 },
     ghost room: { 1024 ≤ vec_capacity todo },
+    ghost place: { 1024 ≤ vec_capacity chosen },
 }
 
 // which joins two pictures need

@@ -11,29 +11,39 @@ pub struct Bridge {
     pub far: u16,
 }
 
+// How a tree hangs: the picture that its root hangs below, and the join that hung it there, as seen from the tree.
+#[derive(Clone, Copy)]
+pub struct Hook {
+    pub above: u16,
+    pub bridge: Bridge,
+}
+
 // A picture in the forest.
 #[derive(Clone, Copy)]
 pub struct Node {
-    // the picture that it hangs below, 0 at a root
-    pub parent: u16,
     // the number of pictures in its tree
     pub size: u16,
-    // the join that hung it there, as seen from its tree
-    pub bridge: Bridge,
+    // how it hangs below another, unless it is a root
+    pub hook: Option<Hook>,
+}
+
+// Pictures in trees: the node of picture p is at place p, and place 0 is not used.
+#[derive(Drop)]
+pub struct Trees {
+    nodes: Vec<Node>,
 }
 
 // The joins of a journal as a forest: each hangs the root of one tree below the root of another, the smaller tree below the larger, so that trees stay
 // low; the places of the joins rise from a picture towards its root. A forest that is out of step with its journal is safe, and of little use.
 #[derive(Drop)]
 pub struct Forest {
-    // the node of picture p is at place p; place 0 is not used
-    nodes: Vec<Node>,
+    trees: Trees,
     // the picture that each join hung below another
     hung: Vec<u16>,
     ghost room: { 1024 ≤ vec_capacity hung },
 }
 
-// nodes, and where their links lead
-mod nodes;
+// trees, and where their hooks lead
+mod hooks;
 // the calls
 pub mod calls;

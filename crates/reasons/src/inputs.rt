@@ -8,9 +8,7 @@ use congruence::Picture;
 pub fn inputs_of(pictures: &[Picture], p: u16) -> Option<&[u16]>
     ensures { IfSome result (λ xs. xs.now ≡ inputs (sheet pictures.now) p) }
 {
-    let i = p as usize;
-    if i == 0 || i > pictures.len() {
-        return None;
-    }
-    Some(pictures[i - 1].inputs.as_slice())
+    let place = (p as usize).checked_sub(1)?;
+    let picture = pictures.get(place)?;
+    Some(picture.inputs.as_slice())
 }

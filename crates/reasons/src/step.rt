@@ -5,8 +5,9 @@ ghost use Rattle.std.proofs.Common.{refl};
 use chains::Linked;
 use congruence::{Cause, Join};
 
-// A cell of the host's step table. Cells are numbered from 1, and next is the cell of the next step, 0 at the last.
-#[derive(Clone, Copy, PartialEq, Eq, Debug)]
+// A cell of the host's step table. Cells are numbered from 1, and next is the cell of the next step, 0 at the last. The rules fix the kinds 1 and 2 as
+// numbers, since a host reads them.
+#[derive(Clone, Copy, PartialEq, Eq, Debug, Default)]
 pub struct Step {
     pub kind: u8,
     pub left: u16,
@@ -15,27 +16,22 @@ pub struct Step {
     pub next: u16,
 }
 
-// A step, the last of its chain.
-fn last(kind: u8, left: u16, right: u16, entry: u16) -> Step
-    ensures { result ≡ record { kind = kind; left = left; right = right; entry = entry; next = 0 } }
-{
-    Step {
-        kind,
-        left,
-        right,
-        entry,
-        next: 0,
-    }
-}
+// The step that a join is, the last of its chain.
+impl From<Join> for Step {
+    ghost from_gives = { λ j s. s ≡ cell_of j 0 };
 
-impl Step {
-    // The step that a join is, the last of its chain.
-    pub fn new(join: &Join) -> Step
-        ensures { result ≡ cell_of join.now }
-    {
-        match join.cause {
-            Cause::Entry(entry) => last(1, join.left, join.right, entry),
-            Cause::Twins => last(2, join.left, join.right, 0),
+    fn from(join: Join) -> Step {
+        let Join { left, right, cause } = join;
+        let (kind, entry) = match cause {
+            Cause::Entry(entry) => (1, entry),
+            Cause::Twins => (2, 0),
+        };
+        Step {
+            kind,
+            left,
+            right,
+            entry,
+            next: 0,
         }
     }
 }

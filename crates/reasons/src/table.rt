@@ -1,35 +1,27 @@
-ghost use Rattle.std.specs.Prelude.{◌≡◌, ◌<◌, ◌≤◌, length, slice_set};
-ghost use Rattle.theory.specs.Slices.{kept};
+ghost use Rattle.std.specs.Prelude.{◌≡◌, ◌≤◌, length};
 ghost use Rattle.congruence.specs.Drawn.{reasons};
-ghost use Rattle.reasons.specs.Table.{Chained, cell_of};
+ghost use Rattle.reasons.specs.Table.{Chained, Listed, Laid};
 
 use crate::step::Step;
 use chains::thread;
 use congruence::Join;
 
-// Writes a join into the cell at place i.
-fn write(table: &mut [Step], i: usize, join: &Join)
-    requires { i < length table.old }
-    ensures { table.new ≡ slice_set table.old i (cell_of join.now) }
+// Writes the joins into the cells 1, 2, 3 and so on of the table.
+fn write_steps(table: &mut [Step], joins: &[Join])
+    requires { length joins.now ≤ length table.old }
+    ensures { Listed joins.now table.old table.new (length joins.now) }
 {
-    table[i] = Step::new(join);
+    for (i, join) in joins.iter().enumerate() {
+        table[i] = Step::from(*join);
+    }
 }
 
-// Writes the marked joins of the journal into the cells from 1 on, chains them, and answers their number.
-pub fn write_marked(table: &mut [Step], journal: &[Join], marks: &[bool]) -> u16
-    requires room { length journal.now ≤ length table.old }
-    requires marked { length journal.now ≤ length marks.now }
-    requires few { length journal.now ≤ 1024 }
-    ensures many { result ≡ length (kept marks.now journal.now) }
-    ensures chained { Chained (kept marks.now (reasons journal.now)) table.old table.new }
+// Writes the joins into the cells 1, 2, 3 and so on of the table, and chains them.
+pub fn write_chain(table: &mut [Step], joins: &[Join])
+    requires { length joins.now ≤ length table.old × (length joins.now ≤ 1024) }
+    ensures laid { Laid joins.now table.old table.new }
+    ensures chained { Chained (reasons joins.now) table.old table.new }
 {
-    let mut m: u16 = 0;
-    for i in 0..journal.len() {
-        if marks[i] {
-            write(table, m as usize, &journal[i]);
-            m += 1;
-        }
-    }
-    let _ = thread(table, m);
-    m
+    write_steps(table, joins);
+    let _ = thread(table, joins.len() as u16);
 }

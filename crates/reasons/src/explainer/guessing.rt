@@ -2,6 +2,7 @@ use crate::certify::prepare;
 use crate::explainer::{Explainer, Pair};
 use crate::forest::Bridge;
 use crate::inputs::inputs_of;
+use crate::question::Question;
 use congruence::{Cause, Join, Picture};
 use keepers::{Keeper, is_same};
 
@@ -19,9 +20,8 @@ impl<S: Keeper> Explainer<S> {
             return None;
         }
         let bridge = self.forest.last_join(pair.here, pair.there)?;
-        let place = bridge.place as usize;
-        if place < self.marks.len() {
-            self.marks[place] = true;
+        if let Some(mark) = self.marks.get_mut(bridge.place as usize) {
+            *mark = true;
         }
         let _ = self.scratch.join(bridge.near, bridge.far);
         Some(bridge)
@@ -31,7 +31,7 @@ impl<S: Keeper> Explainer<S> {
     fn need(&mut self, here: u16, there: u16) {
         self.todo.clear();
         self.push(here, there);
-        for _turn in 0..2048 {
+        for _ in 0..2048 {
             let Some(pair) = self.todo.pop() else {
                 return;
             };
@@ -42,37 +42,30 @@ impl<S: Keeper> Explainer<S> {
         }
     }
 
-    // Marks the joins between two rows, pair by pair.
-    fn need_rows(&mut self, left: &[u16], right: &[u16]) {
-        if left.len() != right.len() {
-            return;
-        }
-        for i in 0..left.len() {
-            self.need(left[i], right[i]);
-        }
-    }
-
-    // Marks the joins that a join stands on: those of the inputs of twins.
+    // Marks the joins that a join stands on: for twins those between their inputs, pair by pair.
     fn need_inputs(&mut self, pictures: &[Picture], join: &Join) {
         let Cause::Twins = join.cause else {
             return;
         };
-        if let (Some(left), Some(right)) = (
+        let (Some(left), Some(right)) = (
             inputs_of(pictures, join.left),
             inputs_of(pictures, join.right),
-        ) {
-            self.need_rows(left, right);
+        ) else {
+            return;
+        };
+        for (x, y) in left.iter().zip(right) {
+            self.need(*x, *y);
         }
     }
 
-    // Marks the joins that a and b need. A join stands on earlier ones alone, so one look from the last to the first finds them all.
-    pub fn guess(&mut self, pictures: &[Picture], journal: &[Join], a: u16, b: u16) {
+    // Marks the joins that two pictures need. A join stands on earlier ones alone, so one look from the last to the first finds them all.
+    pub fn guess(&mut self, asked: &Question) {
         self.marks.fill(false);
-        let _ = prepare(&mut self.scratch, pictures.len());
-        self.need(a, b);
-        for i in (0..journal.len()).rev() {
-            if i < self.marks.len() && self.marks[i] {
-                self.need_inputs(pictures, &journal[i]);
+        let _ = prepare(&mut self.scratch, asked.pictures.len());
+        self.need(asked.a, asked.b);
+        for (i, join) in asked.journal.iter().enumerate().rev() {
+            if self.marks.get(i) == Some(&true) {
+                self.need_inputs(asked.pictures, join);
             }
         }
     }

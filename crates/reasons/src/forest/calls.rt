@@ -1,7 +1,6 @@
 ghost use Rattle.std.specs.Prelude.{◌≡◌, ◌+◌, ◌<◌, ◌≤◌, min, length, IfOk, vec_len};
 
-use crate::forest::nodes::{ALONE, graft, last_join, release};
-use crate::forest::{Bridge, Forest};
+use crate::forest::{Bridge, Forest, Trees};
 use congruence::Join;
 use std::alloc::{AllocError, Global};
 
@@ -11,19 +10,8 @@ impl Forest {
         ensures { IfOk result (λ f. vec_len f.hung ≡ 0) }
     {
         let hung = Vec::with_capacity(heap, 1024)?;
-        let nodes = vec![in heap; ALONE; 1025]?;
-        Ok(Forest { nodes, hung })
-    }
-
-    // Takes the last join back.
-    fn undo(&mut self)
-        requires { 0 < vec_len self.old.hung }
-        ensures { vec_len self.new.hung + 1 ≡ vec_len self.old.hung }
-    {
-        match self.hung.pop() {
-            Some(picture) => release(self.nodes.as_mut_slice(), picture, self.hung.len()),
-            None => unreachable(),
-        }
+        let trees = Trees::new(heap)?;
+        Ok(Forest { trees, hung })
     }
 
     // Takes the joins from the place k on back, the last first.
@@ -31,7 +19,9 @@ impl Forest {
         ensures { vec_len self.new.hung ≡ min (vec_len self.old.hung) k }
     {
         while self.hung.len() > k {
-            self.undo();
+            if let Some(picture) = self.hung.pop() {
+                self.trees.release(picture, self.hung.len());
+            }
         }
     }
 
@@ -41,7 +31,7 @@ impl Forest {
         ensures { vec_len self.new.hung ≡ vec_len self.old.hung + 1 }
     {
         let place = self.hung.len() as u16;
-        let picture = graft(self.nodes.as_mut_slice(), join, place);
+        let picture = self.trees.graft(join, place);
         self.hung.push_reserved(picture);
     }
 
@@ -51,13 +41,13 @@ impl Forest {
         ensures { vec_len self.new.hung ≡ length journal.now }
     {
         self.cut(journal.len());
-        for i in self.hung.len()..journal.len() {
-            self.take(&journal[i]);
+        for join in &journal[self.hung.len()..] {
+            self.take(join);
         }
     }
 
     // The last join that put two pictures together, as seen from the first; none where no join did.
     pub fn last_join(&self, x: u16, y: u16) -> Option<Bridge> {
-        last_join(&self.nodes, x, y)
+        self.trees.last_join(x, y)
     }
 }
