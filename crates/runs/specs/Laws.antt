@@ -5,12 +5,11 @@ use Rattle.theory.specs.Statements.{Satisfiable}
 use Rattle.theory.specs.Calls.{Call, Answer, Content, empty, Stands}
 use Rattle.theory.specs.Runs.{Run, leaves, Within, NextEntry, MustSays, LockedShows, FewSteps}
 use Rattle.runs.specs.declared.call.Call.{Call as Asked}
-use Rattle.runs.specs.declared.answer.Answer.{Answer as Given}
-use Rattle.runs.specs.Calls.{call_of, log_of}
+use Rattle.runs.specs.Calls.{Reply, call_of, log_of}
 
 -- The calls cs are made in their order and have the answers rs, on a sheet just put together; where they are not all made, the sheet as it then is does not
 -- have the next one.
-pub record Answered (cap n : ℕ) (cs : List Asked) (rs : List Given) : Type 0 where
+pub record Answered (cap n : ℕ) (cs : List Asked) (rs : List Reply) : Type 0 where
   pub ran : Run cap (log_of n cs rs)
   pub most : length rs ≤ length cs
   pub ends : (d : Asked) → length rs < length cs → ¬ Stands (leaves empty (log_of n cs rs)) (call_of n (slice_index_or cs (length rs) d))

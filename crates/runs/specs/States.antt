@@ -6,10 +6,9 @@ use Rattle.theory.specs.Calls.{Content, Call, Stands, Answers, after}
 use Rattle.engines.specs.Content.{content}
 use Rattle.engines.specs.Locked.{locked_content, WholeLocked}
 use Rattle.engines.specs.Whole.{Whole}
-use Rattle.runs.specs.declared.answer.Answer.{Answer as Given}
 use Rattle.runs.specs.declared.state.State.{State}
 use Rattle.runs.specs.declared.state.State.TheVariants.{Opened, Closed}
-use Rattle.runs.specs.Calls.{answer_of}
+use Rattle.runs.specs.Calls.{Reply, reply_of}
 
 -- what the sheet holds
 abbrev pub state_content : {X Y : Type 0} {kept : Kept X} {found : Found Y} → State X Y kept found → Content
@@ -23,6 +22,6 @@ WholeState kept found (Closed l) = WholeLocked kept found l
 
 -- A call on a sheet that holds s, which then holds t: it may stand there, has its answer, and leaves what that leaves; or it may not stand there, and
 -- nothing changes.
-abbrev pub GoesOn : ℕ → Content → Call → Option Given → Content → Type 0
-GoesOn cap s c (Some r) t = Stands s c × Answers cap s c (answer_of r) × (t ≡ after s c (answer_of r))
+abbrev pub GoesOn : ℕ → Content → Call → Option Reply → Content → Type 0
+GoesOn cap s c (Some r) t = Stands s c × Answers cap s c (reply_of r) × (t ≡ after s c (reply_of r))
 GoesOn cap s c None t = (¬ Stands s c) × (t ≡ s)

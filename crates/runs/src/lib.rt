@@ -12,6 +12,6 @@ pub(crate) mod making;
 // the run
 pub mod running;
 
-pub use answer::Answer;
+pub use answer::{Answer, Reply};
 pub use call::Call;
 pub use running::run;

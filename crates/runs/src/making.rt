@@ -5,7 +5,7 @@ ghost use Rattle.engines.specs.Whole.{Whole};
 ghost use Rattle.runs.specs.Calls.{call_of};
 ghost use Rattle.runs.specs.States.{state_content, WholeState, GoesOn};
 
-use crate::answer::{Answer, of_add, of_differ, of_must, of_same, of_value, of_why};
+use crate::answer::{Answer, Reply};
 use crate::call::Call;
 use crate::state::State;
 use engines::{Locked, Open, Step};
@@ -17,7 +17,7 @@ pub(crate) fn make_call<K: Keeper, I: Index>(
     state: State<K, I>,
     table: &mut [Step],
     call: &Call,
-) -> (State<K, I>, Option<Answer>)
+) -> (State<K, I>, Option<Reply>)
     requires { WholeState K.Keeper I.Index state }
     ensures whole { WholeState K.Keeper I.Index result.0 }
     ensures goes { GoesOn K.Keeper.limit (state_content state) (call_of (length table.old) call.now) result.1 (state_content result.0) }
@@ -33,7 +33,7 @@ fn call_open<K: Keeper, I: Index>(
     sheet: Open<K, I>,
     table: &mut [Step],
     call: &Call,
-) -> (State<K, I>, Option<Answer>)
+) -> (State<K, I>, Option<Reply>)
     requires { Whole K.Keeper I.Index sheet }
     ensures whole { WholeState K.Keeper I.Index result.0 }
     ensures goes { GoesOn K.Keeper.limit (content sheet) (call_of (length table.old) call.now) result.1 (state_content result.0) }
@@ -41,29 +41,33 @@ fn call_open<K: Keeper, I: Index>(
     let mut sheet = sheet;
     match call {
         Call::Add { op, inputs } => {
-            let answer = of_add(sheet.add(*op, inputs.as_slice()));
+            let answer = sheet.add(*op, inputs.as_slice()).map(Answer::Added);
             (State::Opened(sheet), Some(answer))
         }
         Call::Same { a, b, cells } => {
             let cells = (*cells).min(table.len());
-            let answer = of_same(sheet.same(&mut table[0..cells], *a, *b));
+            let answer = sheet.same(&mut table[0..cells], *a, *b).map(Answer::Joined);
             (State::Opened(sheet), Some(answer))
         }
         Call::Differ { a, b, cells } => {
             let cells = (*cells).min(table.len());
-            let answer = of_differ(sheet.differ(&mut table[0..cells], *a, *b));
+            let answer = sheet
+                .differ(&mut table[0..cells], *a, *b)
+                .map(Answer::Noted);
             (State::Opened(sheet), Some(answer))
         }
         Call::Must { a, b } => {
-            let answer = of_must(sheet.must(*a, *b));
+            let answer = sheet.must(*a, *b).map(Answer::Told);
             (State::Opened(sheet), Some(answer))
         }
         Call::Why { a, b, cells } => {
             let cells = (*cells).min(table.len());
-            let answer = of_why(sheet.why(&mut table[0..cells], *a, *b));
+            let answer = sheet
+                .why(&mut table[0..cells], *a, *b)
+                .map(Answer::Explained);
             (State::Opened(sheet), Some(answer))
         }
-        Call::Lock => (State::Closed(sheet.lock()), Some(Answer::Turned)),
+        Call::Lock => (State::Closed(sheet.lock()), Some(Ok(Answer::Turned))),
         Call::Reopen | Call::Value { .. } | Call::Apply { .. } => (State::Opened(sheet), None),
     }
 }
@@ -73,7 +77,7 @@ fn call_locked<K: Keeper, I: Index>(
     sheet: Locked<K, I>,
     table: &mut [Step],
     call: &Call,
-) -> (State<K, I>, Option<Answer>)
+) -> (State<K, I>, Option<Reply>)
     requires { WholeLocked K.Keeper I.Index sheet }
     ensures whole { WholeState K.Keeper I.Index result.0 }
     ensures goes { GoesOn K.Keeper.limit (locked_content sheet) (call_of (length table.old) call.now) result.1 (state_content result.0) }
@@ -81,23 +85,25 @@ fn call_locked<K: Keeper, I: Index>(
     let mut sheet = sheet;
     match call {
         Call::Must { a, b } => {
-            let answer = of_must(sheet.must(*a, *b));
+            let answer = sheet.must(*a, *b).map(Answer::Told);
             (State::Closed(sheet), Some(answer))
         }
         Call::Why { a, b, cells } => {
             let cells = (*cells).min(table.len());
-            let answer = of_why(sheet.why(&mut table[0..cells], *a, *b));
+            let answer = sheet
+                .why(&mut table[0..cells], *a, *b)
+                .map(Answer::Explained);
             (State::Closed(sheet), Some(answer))
         }
         Call::Value { p } => {
-            let answer = of_value(sheet.value(*p));
+            let answer = sheet.value(*p).map(Answer::Valued);
             (State::Closed(sheet), Some(answer))
         }
         Call::Apply { op, numbers } => {
-            let answer = of_value(sheet.apply(*op, numbers.as_slice()));
+            let answer = sheet.apply(*op, numbers.as_slice()).map(Answer::Valued);
             (State::Closed(sheet), Some(answer))
         }
-        Call::Reopen => (State::Opened(sheet.reopen()), Some(Answer::Turned)),
+        Call::Reopen => (State::Opened(sheet.reopen()), Some(Ok(Answer::Turned))),
         Call::Add { .. } | Call::Same { .. } | Call::Differ { .. } | Call::Lock => (
             State::Closed(sheet),
             None,

@@ -2,7 +2,7 @@ ghost use Rattle.std.specs.Prelude.{length, IfOk};
 ghost use Rattle.runs.specs.Calls.{log_of};
 ghost use Rattle.runs.specs.Laws.{Answered, Law};
 
-use crate::answer::Answer;
+use crate::answer::Reply;
 use crate::call::Call;
 use crate::making::make_call;
 use crate::state::State;
@@ -19,7 +19,7 @@ pub fn run<K: Keeper + Drop, I: Index + Drop>(
     index: I,
     calls: &[Call],
     table: &mut [Step],
-) -> Result<Vec<Answer>, AllocError>
+) -> Result<Vec<Reply>, AllocError>
     ensures answered { IfOk result (λ answers. Answered K.Keeper.limit (length table.old) calls.now answers.items) }
     ensures law { IfOk result (λ answers. Law K.Keeper.limit (log_of (length table.old) calls.now answers.items)) }
 {

@@ -1,8 +1,7 @@
 use Rattle.std.proofs.Common.{ℕ, length, Some, None, vec_items, Option, subst, arith}
 use Rattle.engines.specs.Content.{content}
 use Rattle.runs.specs.declared.call.Call.{Call as Asked}
-use Rattle.runs.specs.declared.answer.Answer.{Answer as Given}
-use Rattle.runs.specs.Calls.{call_of, log_of}
+use Rattle.runs.specs.Calls.{Reply, call_of, log_of}
 use Rattle.runs.specs.States.{state_content, GoesOn}
 use Rattle.runs.specs.Laws.{Answered}
 use Rattle.runs.proofs.Logs.{runs_first, runs_more, runs_all, runs_until, lawful}
@@ -27,7 +26,7 @@ returns-in-None g c =
     let t = state_content c.make_call-next.result.0 in
     let x : Asked = c.call-item.result in
     let on : GoesOn cap s (call_of n x) None t =
-    subst (λ (k : ℕ). GoesOn cap s (call_of k x) None t) c.loop-call.auto.table (subst (λ (r : Option Given). GoesOn cap s (call_of (length c.loop-call.table) x) r t) c.in-None.is c.make_call-next.ensures.goes) in
+    subst (λ (k : ℕ). GoesOn cap s (call_of k x) None t) c.loop-call.auto.table (subst (λ (r : Option Reply). GoesOn cap s (call_of (length c.loop-call.table) x) r t) c.in-None.is c.make_call-next.ensures.goes) in
     let a : Answered cap n cs rs = runs_until cap n cs rs i s t x c.loop-call.invariant.1 c.loop-call-test.true c.call-item.is on in
     record { answered = a; law = lawful cap (log_of n cs rs) a.ran }
 
@@ -41,9 +40,9 @@ loop-call-preserved g c =
     let s = state_content c.loop-call.state in
     let t = state_content c.make_call-next.result.0 in
     let x : Asked = c.call-item.result in
-    let a : Given = c.in-Some.answer in
+    let a : Reply = c.in-Some.answer in
     let on : GoesOn cap s (call_of n x) (Some a) t =
-    subst (λ (k : ℕ). GoesOn cap s (call_of k x) (Some a) t) c.loop-call.auto.table (subst (λ (r : Option Given). GoesOn cap s (call_of (length c.loop-call.table) x) r t) c.in-Some.is c.make_call-next.ensures.goes) in (
+    subst (λ (k : ℕ). GoesOn cap s (call_of k x) (Some a) t) c.loop-call.auto.table (subst (λ (r : Option Reply). GoesOn cap s (call_of (length c.loop-call.table) x) r t) c.in-Some.is c.make_call-next.ensures.goes) in (
       c.make_call-next.ensures.whole,
       runs_more cap n cs rs (vec_items c.push_reserved.new.self) i s t x a c.loop-call.invariant.1 c.loop-call-test.true c.call-item.is c.push_reserved.ensures.items on,
       omega (arith, c.push_reserved.ensures.capacity, c.loop-call.invariant.2),
