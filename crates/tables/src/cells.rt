@@ -28,11 +28,11 @@ pub(crate) fn show_chain(rt: &HostRuntime, table: &[Step], steps: u16) -> anyhow
 
 // Prints a cell of a chain. Answers the next.
 fn show_cell(rt: &HostRuntime, table: &[Step], cell: u16) -> anyhow::Result<u16> {
-    if cell == 0 || cell as usize > table.len() {
+    let place = (cell as usize).wrapping_sub(1);
+    let Some(step) = table.get(place) else {
         println!(rt; "  cell {cell}: not in the table")?;
         return Ok(0);
-    }
-    let step = table[cell as usize - 1];
+    };
     println!(rt;
         "  cell {cell}: kind {}, left {}, right {}, entry {}, next {}",
         step.kind, step.left, step.right, step.entry, step.next
@@ -42,11 +42,9 @@ fn show_cell(rt: &HostRuntime, table: &[Step], cell: u16) -> anyhow::Result<u16>
 
 // How many cells behind the first ones do not hold the mark.
 fn count_changed(table: &[Step], first: usize) -> usize {
-    let mut changed: usize = 0;
-    for (i, cell) in table.iter().enumerate() {
-        if i >= first && *cell != MARK {
-            changed = changed.saturating_add(1);
-        }
-    }
-    changed
+    table
+        .iter()
+        .skip(first)
+        .filter(|cell| **cell != MARK)
+        .count()
 }
