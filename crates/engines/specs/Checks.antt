@@ -1,5 +1,6 @@
 -- The checks that need no more than numbers, in their order. Assumes nothing.
-use Rattle.std.specs.Prelude.{ℕ, ◌<◌, ◌≤◌, Bool, false, ◌||◌, List, [], ◌∷◌, ◌==◌, nat_lt}
+use Rattle.std.specs.Prelude.{ℕ, ◌<◌, ◌≤◌, Bool, ◌||◌, List, ◌==◌, nat_lt}
+use Rattle.std.specs.List.{list_any}
 use Rattle.keepers.specs.Meaning.{Upto}
 use Rattle.engines.specs.declared.fault.SheetFault.{SheetFault}
 use Rattle.engines.specs.declared.fault.SheetFault.TheVariants.{FewCells, NoPicture, Full, Contradiction, Inputs, Apart}
@@ -10,8 +11,7 @@ absent n p = p == 0 || nat_lt n p
 
 -- one of the numbers is 0 or above the count
 abbrev pub any_absent : ℕ → List ℕ → Bool
-any_absent n [] = false
-any_absent n (p ∷ ps) = absent n p || any_absent n ps
+any_absent n ps = list_any (absent n) ps
 
 -- both are pictures of n
 abbrev pub Both : ℕ → ℕ → ℕ → Type 0

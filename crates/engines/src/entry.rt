@@ -14,8 +14,7 @@ impl Entry {
         ensures { result ≡ left_of self }
     {
         match self {
-            Entry::Same(a, _) => a,
-            Entry::Differ(a, _) => a,
+            Entry::Same(a, _) | Entry::Differ(a, _) => a,
         }
     }
 
@@ -24,8 +23,7 @@ impl Entry {
         ensures { result ≡ right_of self }
     {
         match self {
-            Entry::Same(_, b) => b,
-            Entry::Differ(_, b) => b,
+            Entry::Same(_, b) | Entry::Differ(_, b) => b,
         }
     }
 }

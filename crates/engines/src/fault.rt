@@ -48,11 +48,7 @@ impl SheetFault {
     {
         match self {
             SheetFault::Contradiction(clash) => clash.broken,
-            SheetFault::FewCells => 0,
-            SheetFault::NoPicture => 0,
-            SheetFault::Full => 0,
-            SheetFault::Inputs => 0,
-            SheetFault::Apart => 0,
+            _ => 0,
         }
     }
 }

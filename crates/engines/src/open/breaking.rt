@@ -23,8 +23,8 @@ pub fn first_broken<K: Keeper>(k: &mut K, entries: &[Entry]) -> Option<usize>
     ensures answer { FirstBroken (K.reps k.old) entries.now result }
     ensures same { K.reps k.new ≡ K.reps k.old }
 {
-    for i in 0..entries.len() {
-        if is_broken(k, &entries[i]) {
+    for (i, entry) in entries.iter().enumerate() {
+        if is_broken(k, entry) {
             return Some(i);
         }
     }

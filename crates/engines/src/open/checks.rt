@@ -15,12 +15,7 @@ pub fn missing(n: usize, p: u16) -> bool
 pub fn any_missing(n: usize, row: &[u16]) -> bool
     ensures { result ≡ any_absent n row.now }
 {
-    for p in row {
-        if missing(n, *p) {
-            return true;
-        }
-    }
-    false
+    row.iter().any(|p| missing(n, *p))
 }
 
 // The check of two picture numbers.
