@@ -1,26 +1,12 @@
 ghost use Rattle.std.specs.Prelude.{◌≡◌, ◌≤◌, true, length};
-ghost use Rattle.std.specs.List.{range_with_len, AllZip};
+ghost use Rattle.std.specs.List.{AllZip};
 ghost use Rattle.congruence.specs.Drawn.{sheet, reason_of, reasons};
 ghost use Rattle.reasons.specs.Marks.{Enough, Alike, Stands, Absorbed};
 
 use crate::inputs::inputs_of;
 use crate::question::Question;
 use congruence::{Cause, Join, Picture};
-use keepers::{Keeper, is_same};
-
-// Makes the keeper count n pictures, each alone. Says whether it has room for them.
-pub fn prepare<S: Keeper>(scratch: &mut S, n: usize) -> bool
-    ensures { result ≡ true → S.reps scratch.new ≡ range_with_len 1 n }
-{
-    scratch.reset();
-    for _i in 0..n {
-        match scratch.grow() {
-            Ok(_) => {}
-            Err(_) => return false,
-        }
-    }
-    true
-}
+use keepers::{Keeper, is_same, populate};
 
 // Whether two pictures are in one class.
 fn one_class<S: Keeper>(scratch: &mut S, x: u16, y: u16) -> bool
@@ -78,9 +64,9 @@ pub fn certify<S: Keeper>(scratch: &mut S, asked: &Question, marks: &[bool]) -> 
     requires { length asked.now.journal.now ≤ length marks.now }
     ensures { result ≡ true → Enough (sheet asked.now.pictures.now) (reasons asked.now.journal.now) asked.now.a asked.now.b marks.now }
 {
-    if !prepare(scratch, asked.pictures.len()) {
+    let Ok(()) = populate(scratch, asked.pictures.len()) else {
         return false;
-    }
+    };
     for (join, marked) in asked.journal.iter().zip(marks) {
         if *marked && !absorb(scratch, asked.pictures, join) {
             return false;

@@ -1,10 +1,9 @@
-use crate::certify::prepare;
 use crate::explainer::{Explainer, Pair};
 use crate::forest::Bridge;
 use crate::inputs::inputs_of;
 use crate::question::Question;
 use congruence::{Cause, Join, Picture};
-use keepers::{Keeper, is_same};
+use keepers::{Keeper, is_same, populate};
 
 impl<S: Keeper> Explainer<S> {
     // Lets a pair wait, if it is of two pictures and there is room.
@@ -61,7 +60,7 @@ impl<S: Keeper> Explainer<S> {
     // Marks the joins that two pictures need. A join stands on earlier ones alone, so one look from the last to the first finds them all.
     pub fn guess(&mut self, asked: &Question) {
         self.marks.fill(false);
-        let _ = prepare(&mut self.scratch, asked.pictures.len());
+        let _ = populate(&mut self.scratch, asked.pictures.len());
         self.need(asked.a, asked.b);
         for (i, join) in asked.journal.iter().enumerate().rev() {
             if self.marks.get(i) == Some(&true) {

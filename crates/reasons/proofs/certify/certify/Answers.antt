@@ -12,7 +12,7 @@ use Rattle.reasons.proofs.certify.certify.Goals.{else-marked-via-then-marked+els
 pub loop-join-init : goal.loop-join-init
 loop-join-init g c =
     let ps = c.args.asked.now.pictures.now in
-    state_none (sheet ps) _ _ _ (c.prepare.ensures c.if-not-prepare.false ∙ ap (range_with_len 1) (sym (length-map ps drawn)))
+    state_none (sheet ps) _ _ _ (c.in-Ok.ensures.1 ∙ ap (range_with_len 1) (sym (length-map ps drawn)))
 
 pub loop-join-preserved : goal.loop-join-preserved
 loop-join-preserved g c =
