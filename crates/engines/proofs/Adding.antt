@@ -1,49 +1,53 @@
 -- A sheet at rest is given one picture more. Assumes nothing.
-use Rattle.std.proofs.Common.{◌≡◌, ℕ, ◌+◌, ◌<◌, ◌≤◌, true, false, ◌⊎◌, List, [], ◌∷◌, ◌++◌, map, length, All, Option, refl, ap, subst, inl, inr, arith}
+use Rattle.std.proofs.Common.{◌≡◌, ℕ, ◌+◌, ◌<◌, ◌≤◌, true, false, ◌⊎◌, List, [], ◌∷◌, ◌++◌, map, length, All, Option, sym, refl, ap, subst, inl, inr, arith}
 use Rattle.std.proofs.lemmas.List.Elements.{All-nil, All-cons, All-head, All-tail, All-weaker}
 use Rattle.theory.specs.Sheet.{Picture, Entry, same, differ, On, Placed, Keeps, Breaks, Lowest}
 use Rattle.theory.specs.Reasons.{Derivation}
 use Rattle.theory.specs.Calls.{Content, Answers, add, added, refused, no_picture, full}
 use Rattle.theory.proofs.Growing.{placed_more, longer, add_law}
 use Rattle.theory.proofs.Journals.{picture_more_law}
-use Rattle.keepers.specs.Meaning.{rep, Upto, Settled}
+use Rattle.keepers.specs.Meaning.{rep, Upto}
 use Rattle.congruence.specs.declared.journal.Join.{Join}
-use Rattle.congruence.specs.declared.picture.Note.{Note}
-use Rattle.congruence.specs.Drawn.{reasons}
-use Rattle.congruence.specs.Working.{Together, Grows, Any, Closes}
+use Rattle.congruence.specs.declared.picture.Picture.{Picture as Held}
+use Rattle.congruence.specs.Drawn.{sheet, reasons}
+use Rattle.congruence.specs.Working.{Together, Books, Grows, Any, Closes}
 use Rattle.congruence.specs.Waiting.{Working, Idle}
-use Rattle.congruence.proofs.Growing.{grown_working, grown_coarser}
-use Rattle.congruence.proofs.Journals.{grows_coarser}
+use Rattle.congruence.proofs.Growing.{drawn_coarser}
 use Rattle.congruence.proofs.Resting.{rests, exact, closes_keeps, keeps_coarser}
-use Rattle.congruence.proofs.Sweeps.{row_of}
 use Rattle.engines.specs.Checks.{any_absent}
 use Rattle.engines.specs.Whole.{Rests}
 use Rattle.engines.proofs.Numbers.{all_present, not_all_present}
 use Rattle.engines.proofs.Telling.{rests_proper}
 
-module _ (cap : ℕ) (rs rs' rs'' : List ℕ) (P : List Picture) (x : Picture) (E : List Entry) (N N'' : List Note) (note : Note) (m m'' : ℕ → List ℕ → Option ℕ) (J J'' : List Join) (n : ℕ)
-    (w : Rests cap rs P E N m J) (set : Settled rs) (few : length P < 1024) (is-n : n ≡ length rs + 1) (grown : rs' ≡ rs ++ n ∷ []) (fed : All (On P) x.inputs) (short : length x.inputs ≤ 4)
-    (own_row : row_of note ≡ map (rep rs') x.inputs) (late : note.waits ≡ true) (room : length P < cap)
-    (w'' : Working rs'' (P ++ x ∷ []) N'' m'' J'') (idle : Idle (P ++ x ∷ []) N'') (grows : Grows (P ++ x ∷ []) Any J J'') where
-  P' : List Picture
-  P' = P ++ x ∷ []
+module _ (cap : ℕ) (rs rs'' : List ℕ) (ps ps'' : List Held) (x : Picture) (E : List Entry) (m m'' : ℕ → List ℕ → Option ℕ) (J J'' : List Join)
+    (w : Rests cap rs ps E m J) (es : sheet ps'' ≡ sheet ps ++ x ∷ []) (fed : All (On (sheet ps)) x.inputs) (room : length (sheet ps) < cap)
+    (w'' : Working rs'' ps'' m'' J'') (idle : Idle ps'') (grows : Grows (sheet ps'') Any J J'') where
+  abbrev P : List Picture
+  P = sheet ps
 
-  derived : Derivation (P ++ x ∷ []) E [] (reasons J'')
-  derived = grows.derives E tt (picture_more_law P x E (rests_proper cap rs P E N m J w) (reasons J) w.derived)
+  -- what holds of the pictures that the definitions have holds of those that are held
+  held-so : (R : List Picture → Type 0) → R (sheet ps ++ x ∷ []) → R (sheet ps'')
+  held-so R h = subst R (sym es) h
 
-  placed : All (Placed (P ++ x ∷ [])) E
-  placed = All-weaker (Placed P) (Placed (P ++ x ∷ [])) (placed_more P x) E w.placed
+  -- and the other way round
+  drawn-so : (R : List Picture → Type 0) → R (sheet ps'') → R (sheet ps ++ x ∷ [])
+  drawn-so R h = subst R es h
+
+  grows' : Grows (sheet ps ++ x ∷ []) Any J J''
+  grows' = drawn-so (λ Q. Grows Q Any J J'') grows
+
+  derived : Derivation (sheet ps'') E [] (reasons J'')
+  derived = held-so (λ Q. Derivation Q E [] (reasons J'')) (grows'.derives E tt (picture_more_law P x E (rests_proper cap rs ps E m J w) (reasons J) w.derived))
 
   keeps : All (Keeps (Together (rep rs''))) E
   keeps =
-      keeps_coarser (P ++ x ∷ []) (rep rs') (rep rs'')
-      (grows_coarser rs' rs'' (P ++ x ∷ []) Any J J'' (grown_working rs rs' P x N note m J n w.working set few is-n grown fed short own_row late).books w''.books grows) E placed
-      (keeps_coarser P (rep rs) (rep rs') (grown_coarser rs rs' P x N note m J n w.working set few is-n grown fed short own_row late) E w.placed (closes_keeps P E (rep rs) w.closes w.placed))
+      keeps_coarser P (rep rs) (rep rs'') (drawn_coarser rs rs'' P x J J'' w.working.books (drawn-so (λ Q. Books rs'' Q J'') w''.books) grows') E w.placed
+      (closes_keeps P E (rep rs) w.closes w.placed)
 
-  pub added_closes : Closes (P ++ x ∷ []) E (rep rs'')
-  added_closes = rests rs'' (P ++ x ∷ []) E N'' m'' J'' w'' idle derived keeps
+  pub added_closes : Closes (sheet ps'') E (rep rs'')
+  added_closes = rests rs'' ps'' E m'' J'' w'' idle derived keeps
 
-  unbroken : All (λ e. ¬ Breaks (P ++ x ∷ []) E e) E
+  unbroken : All (λ e. ¬ Breaks (sheet ps ++ x ∷ []) E e) E
   unbroken = go E w.placed w.unbroken
     where
       go : (F : List Entry) → All (Placed P) F → All (λ e. ¬ Breaks P E e) F → All (λ e. ¬ Breaks (P ++ x ∷ []) E e) F
@@ -54,17 +58,17 @@ module _ (cap : ℕ) (rs rs' rs'' : List ℕ) (P : List Picture) (x : Picture) (
       go (differ a b ∷ F) p u =
           let on = All-head (Placed P) (differ a b) F p in
           All-cons (λ e. ¬ Breaks (P ++ x ∷ []) E e) (differ a b) F
-          (λ k. All-head (λ e. ¬ Breaks P E e) (differ a b) F u ((add_law P x E (rests_proper cap rs P E N m J w) fed a b on.0 on.1).1 k))
+          (λ k. All-head (λ e. ¬ Breaks P E e) (differ a b) F u ((add_law P x E (rests_proper cap rs ps E m J w) fed a b on.0 on.1).1 k))
           (go F (All-tail (Placed P) (differ a b) F p) (All-tail (λ e. ¬ Breaks P E e) (differ a b) F u))
 
-  pub added_rests : Rests cap rs'' (P ++ x ∷ []) E N'' m'' J''
+  pub added_rests : Rests cap rs'' ps'' E m'' J''
   added_rests =
       record {
         closes = added_closes;
-        exact = exact rs'' (P ++ x ∷ []) N'' m'' J'' w'' idle;
-        unbroken = unbroken;
-        placed = placed;
-        room = omega (arith, room, longer P x);
+        exact = exact rs'' ps'' m'' J'' w'' idle;
+        unbroken = held-so (λ Q. All (λ e. ¬ Breaks Q E e) E) unbroken;
+        placed = held-so (λ Q. All (Placed Q) E) (All-weaker (Placed P) (Placed (P ++ x ∷ [])) (placed_more P x) E w.placed);
+        room = held-so (λ Q. length Q ≤ cap) (omega (arith, room, longer P x));
         derived = derived;
         working = w'';
         idle = idle;

@@ -20,7 +20,7 @@ taken es = map entry_of es
 
 -- the pictures on a sheet
 abbrev pub pictures_on : {X Y : Type 0} {kept : Kept X} {found : Found Y} → Open X Y kept found → List Picture
-pictures_on o = sheet (vec_items o.pictures)
+pictures_on o = sheet (vec_items o.congruence.pictures)
 
 -- the entries that it has taken
 abbrev pub entries_on : {X Y : Type 0} {kept : Kept X} {found : Found Y} → Open X Y kept found → List Entry

@@ -1,6 +1,8 @@
 -- The refusals and answers of the calls, as those of the definitions. Assumes nothing.
 use Rattle.std.specs.Prelude.{ℕ, Bool, Ok, Err, Result}
 use Rattle.theory.specs.Calls.{Refusal, few_cells, no_picture, full, contradiction, many_inputs, apart, Answer, added, joined, noted, told, explained, valued, refused}
+use Rattle.keepers.specs.declared.keeper.KeeperFault.{KeeperFault}
+use Rattle.keepers.specs.declared.keeper.KeeperFault.TheVariants.{NoPicture as NoPictureKept, Full as FullKept}
 use Rattle.engines.specs.declared.answer.Added.{Added}
 use Rattle.engines.specs.declared.answer.Joined.{Joined}
 use Rattle.engines.specs.declared.fault.SheetFault.{SheetFault}
@@ -14,6 +16,11 @@ refusal_of Full = full
 refusal_of (Contradiction c) = contradiction c.broken c.steps
 refusal_of Inputs = many_inputs
 refusal_of Apart = apart
+
+-- what the refusal of a keeper is for a sheet
+abbrev pub fault_of : KeeperFault → SheetFault
+fault_of NoPictureKept = NoPicture
+fault_of FullKept = Full
 
 -- the answer that a result is, where `says` tells what it is if it is no refusal
 abbrev pub reply : {X : Type 0} → (X → Answer) → Result X SheetFault → Answer

@@ -1,6 +1,8 @@
 ghost use Rattle.std.specs.Prelude.{◌≡◌};
 ghost use Rattle.theory.specs.Calls.{number, detail};
-ghost use Rattle.engines.specs.Faults.{refusal_of};
+ghost use Rattle.engines.specs.Faults.{refusal_of, fault_of};
+
+use keepers::KeeperFault;
 
 // A contradiction: the lowest `differ` entry whose two pictures are forced to be the same, the refused entry counted in, and the number of steps of
 // the chain that was written to show it.
@@ -25,6 +27,17 @@ pub enum SheetFault {
     Inputs,
     // the two pictures are not in one class
     Apart,
+}
+
+impl From<KeeperFault> for SheetFault {
+    ghost from_gives = { λ e f. f ≡ fault_of e };
+
+    fn from(fault: KeeperFault) -> SheetFault {
+        match fault {
+            KeeperFault::NoPicture => SheetFault::NoPicture,
+            KeeperFault::Full => SheetFault::Full,
+        }
+    }
 }
 
 impl SheetFault {

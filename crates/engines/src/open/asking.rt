@@ -3,6 +3,9 @@ ghost use Rattle.theory.specs.Sheet.{Classes};
 ghost use Rattle.theory.specs.Calls.{Answers};
 ghost use Rattle.theory.specs.Calls.{must as asking};
 ghost use Rattle.theory.specs.Calls.{why as asking_why};
+ghost use Rattle.congruence.specs.Drawn.{reasons};
+ghost use Rattle.congruence.specs.Whole.{Works};
+ghost use Rattle.reasons.specs.Table.{Explained};
 ghost use Rattle.engines.specs.Content.{content, pictures_on, entries_on};
 ghost use Rattle.engines.specs.Faults.{must_reply, why_reply};
 ghost use Rattle.engines.specs.Whole.{Whole};
@@ -11,10 +14,9 @@ ghost use Rattle.engines.specs.Tables.{WhyTable};
 use crate::fault::SheetFault;
 use crate::open::Open;
 use crate::open::checks::check_pair;
-use congruence::rooting::together;
 use indexes::Index;
 use keepers::Keeper;
-use reasons::Step;
+use reasons::{Question, Step};
 
 impl<K: Keeper, I: Index> Open<K, I> {
     // Whether two pictures are in one class. Nothing of what the sheet means changes.
@@ -24,8 +26,8 @@ impl<K: Keeper, I: Index> Open<K, I> {
         ensures answer { Answers K.Keeper.limit (content self.old) (asking a b) (must_reply result) }
         ensures same { content self.new ≡ content self.old }
     {
-        check_pair(self.pictures.len(), a, b)?;
-        Ok(together(&mut self.keeper, a, b))
+        check_pair(self.picture_count(), a, b)?;
+        Ok(self.congruence.together(a, b))
     }
 
     // Writes a reason chain that joins two pictures of one class into the step table, and answers its number of steps. Nothing of what the sheet means changes.
@@ -39,19 +41,28 @@ impl<K: Keeper, I: Index> Open<K, I> {
         if table.len() < 1024 {
             return Err(SheetFault::FewCells);
         }
-        check_pair(self.pictures.len(), a, b)?;
-        if !together(&mut self.keeper, a, b) {
+        check_pair(self.picture_count(), a, b)?;
+        if !self.congruence.together(a, b) {
             return Err(SheetFault::Apart);
         }
-        Ok(
-            self.explainer.explain(
-                table,
-                self.pictures.as_slice(),
-                self.journal.as_slice(),
-                a,
-                b,
-            ),
-        )
+        Ok(self.explain(table, a, b))
+    }
+
+    // Writes a reason chain that joins two pictures, where the journal does, and answers its number of steps.
+    pub(super) fn explain(&mut self, table: &mut [Step], a: u16, b: u16) -> u16
+        requires working { Works K.Keeper I.Index self.old.congruence }
+        requires cells { 1024 ≤ length table.old }
+        ensures congruence { self.new.congruence ≡ self.old.congruence }
+        ensures entries { self.new.entries ≡ self.old.entries }
+        ensures explained { Explained (pictures_on self.old) (reasons self.old.congruence.journal.items) a b result table.old table.new }
+    {
+        let asked = Question {
+            pictures: self.congruence.pictures(),
+            journal: self.congruence.journal(),
+            a,
+            b,
+        };
+        self.explainer.explain(table, &asked)
     }
 
     // The number of classes.
@@ -59,6 +70,6 @@ impl<K: Keeper, I: Index> Open<K, I> {
         requires { Whole K.Keeper I.Index self.now }
         ensures { Classes (pictures_on self.now) (entries_on self.now) result }
     {
-        (self.pictures.len() - self.journal.len()) as u16
+        (self.picture_count() - self.congruence.journal().len()) as u16
     }
 }

@@ -1,9 +1,10 @@
-ghost use Rattle.std.specs.Prelude.{◌≡◌, IfOk};
+ghost use Rattle.std.specs.Prelude.{◌≡◌, length, IfOk};
 ghost use Rattle.theory.specs.Calls.{empty};
-ghost use Rattle.engines.specs.Content.{content};
+ghost use Rattle.engines.specs.Content.{content, pictures_on, entries_on};
 ghost use Rattle.engines.specs.Whole.{Whole};
 
 use crate::open::Open;
+use congruence::Congruence;
 use indexes::Index;
 use keepers::{Keeper, Links};
 use reasons::Explainer;
@@ -15,24 +16,29 @@ impl<K: Keeper + Drop, I: Index + Drop> Open<K, I> {
         ensures whole { IfOk result (λ o. Whole K.Keeper I.Index o) }
         ensures empty { IfOk result (λ o. content o ≡ empty) }
     {
-        let mut keeper = keeper;
-        let mut index = index;
-        keeper.reset();
-        index.reset();
-        let pictures = Vec::with_capacity(heap, 1024)?;
-        let notes = Vec::with_capacity(heap, 1024)?;
+        let congruence = Congruence::new(heap, keeper, index)?;
         let entries = Vec::with_capacity(heap, 2048)?;
-        let journal = Vec::with_capacity(heap, 1024)?;
-        let scratch = Links::new(heap)?;
-        let explainer = Explainer::new(heap, scratch)?;
+        let explainer = Explainer::new(heap, Links::new(heap)?)?;
         Ok(Open {
-            keeper,
-            index,
-            pictures,
-            notes,
+            congruence,
             entries,
-            journal,
             explainer,
         })
+    }
+}
+
+impl<K: Keeper, I: Index> Open<K, I> {
+    // The number of pictures on the sheet.
+    pub(super) fn picture_count(&self) -> usize
+        ensures { result ≡ length (pictures_on self.now) }
+    {
+        self.congruence.pictures().len()
+    }
+
+    // The number of entries that it has taken.
+    pub(super) fn entry_count(&self) -> usize
+        ensures { result ≡ length (entries_on self.now) }
+    {
+        self.entries.len()
     }
 }

@@ -1,11 +1,11 @@
 ghost use Rattle.std.specs.Prelude.{◌≡◌, ℕ, ◌+◌, ◌<◌, ◌≤◌, List, [], ◌∷◌, ◌++◌, length, take, vec_len};
-ghost use Rattle.indexes.specs.Meaning.{held};
 ghost use Rattle.theory.specs.Sheet.{same, differ};
 ghost use Rattle.theory.specs.Calls.{tell, Answers, after};
 ghost use Rattle.theory.specs.Calls.{add as adding};
 ghost use Rattle.congruence.specs.Drawn.{reasons};
 ghost use Rattle.congruence.specs.Working.{Fresh, Grows, Any};
-ghost use Rattle.congruence.specs.Waiting.{Working, Idle};
+ghost use Rattle.congruence.specs.Waiting.{Idle};
+ghost use Rattle.congruence.specs.Whole.{Works};
 ghost use Rattle.reasons.specs.Table.{Explained};
 ghost use Rattle.engines.specs.Content.{content, pictures_on, entries_on};
 ghost use Rattle.engines.specs.Faults.{add_reply, same_reply, differ_reply};
@@ -18,10 +18,7 @@ use crate::fault::{Clash, SheetFault};
 use crate::open::Open;
 use crate::open::breaking::first_broken;
 use crate::open::checks::{any_missing, check_entry};
-use congruence::restoring::restore;
-use congruence::rooting::{lowest, roots, together};
-use congruence::settling::{settle, tie};
-use congruence::{Cause, Join, Note, Picture};
+use congruence::{Cause, Join};
 use indexes::{Index, Row};
 use keepers::Keeper;
 use reasons::Step;
@@ -37,33 +34,16 @@ impl<K: Keeper, I: Index> Open<K, I> {
         let Some(row) = Row::new(inputs) else {
             return Err(SheetFault::Inputs);
         };
-        let n = self.pictures.len();
+        let n = self.picture_count();
         if any_missing(n, inputs) {
             return Err(SheetFault::NoPicture);
         }
         if n >= 1024 {
             return Err(SheetFault::Full);
         }
-        match self.keeper.grow() {
-            Ok(number) => {
-                self.pictures.push_reserved(Picture { op, inputs: row });
-                let signature = roots(&mut self.keeper, &row);
-                self.notes.push_reserved(Note {
-                    row: signature,
-                    waits: true,
-                });
-                settle(
-                    &mut self.keeper,
-                    &mut self.index,
-                    self.pictures.as_slice(),
-                    self.notes.as_mut_slice(),
-                    &mut self.journal,
-                );
-                let lowest = lowest(&mut self.keeper, number);
-                Ok(Added { number, lowest })
-            }
-            Err(_) => Err(SheetFault::Full),
-        }
+        let number = self.congruence.draw(op, row)?;
+        let lowest = self.congruence.lowest(number);
+        Ok(Added { number, lowest })
     }
 
     // Takes the entry that two pictures are the same. Answers its number and its joins.
@@ -74,28 +54,19 @@ impl<K: Keeper, I: Index> Open<K, I> {
         ensures after { content self.new ≡ after (content self.old) (tell (same a b) (length table.old)) (same_reply result) }
         ensures table { ToldTable (pictures_on self.old) (entries_on self.old ++ same a b ∷ []) table.old table.new result }
     {
-        let n = self.pictures.len();
-        let taken = self.entries.len();
-        let entry = check_entry(table.len(), n, taken, a, b)?;
-        let joined = self.journal.len();
-        tie(
-            &mut self.keeper,
-            &mut self.index,
-            self.pictures.as_slice(),
-            self.notes.as_mut_slice(),
-            &mut self.journal,
-            Join {
-                left: a,
-                right: b,
-                cause: Cause::Entry(entry),
-            },
-        );
-        match first_broken(&mut self.keeper, self.entries.as_slice()) {
+        let entry = check_entry(table.len(), self.picture_count(), self.entry_count(), a, b)?;
+        let joined = self.congruence.journal().len();
+        self.congruence.tie(Join {
+            left: a,
+            right: b,
+            cause: Cause::Entry(entry),
+        });
+        match first_broken(&mut self.congruence, self.entries.as_slice()) {
             None => {
                 self.entries.push_reserved(Entry::Same(a, b));
                 Ok(Joined {
                     entry,
-                    joins: (self.journal.len() - joined) as u16,
+                    joins: (self.congruence.journal().len() - joined) as u16,
                 })
             }
             Some(i) => {
@@ -111,31 +82,18 @@ impl<K: Keeper, I: Index> Open<K, I> {
 
     // Writes a chain that joins two pictures, and goes back to the first joins of the journal. Answers the number of steps.
     fn withdraw(&mut self, table: &mut [Step], a: u16, b: u16, to: usize) -> u16
-        requires working { Working (K.Keeper.reps self.old.keeper) (pictures_on self.old) self.old.notes.items (held (I.Index.leads self.old.index)) self.old.journal.items }
-        requires fresh { Fresh (pictures_on self.old) self.old.journal.items }
+        requires working { Works K.Keeper I.Index self.old.congruence }
+        requires fresh { Fresh (pictures_on self.old) self.old.congruence.journal.items }
         requires limit { length (pictures_on self.old) ≤ K.Keeper.limit }
         requires cells { 1024 ≤ length table.old }
-        ensures explained { Explained (pictures_on self.old) (reasons self.old.journal.items) a b result table.old table.new }
-        ensures working { Working (K.Keeper.reps self.new.keeper) (pictures_on self.old) self.new.notes.items (held (I.Index.leads self.new.index)) self.new.journal.items }
-        ensures idle { Idle (pictures_on self.old) self.new.notes.items }
-        ensures grows { Grows (pictures_on self.old) Any (take to self.old.journal.items) self.new.journal.items }
+        ensures explained { Explained (pictures_on self.old) (reasons self.old.congruence.journal.items) a b result table.old table.new }
+        ensures working { Works K.Keeper I.Index self.new.congruence }
+        ensures idle { Idle self.new.congruence.pictures.items }
+        ensures grows { Grows (pictures_on self.old) Any (take to self.old.congruence.journal.items) self.new.congruence.journal.items }
         ensures content { content self.new ≡ content self.old }
     {
-        let steps = self.explainer.explain(
-            table,
-            self.pictures.as_slice(),
-            self.journal.as_slice(),
-            a,
-            b,
-        );
-        restore(
-            &mut self.keeper,
-            &mut self.index,
-            self.pictures.as_slice(),
-            self.notes.as_mut_slice(),
-            &mut self.journal,
-            to,
-        );
+        let steps = self.explain(table, a, b);
+        self.congruence.restore(to);
         self.explainer.cut(to);
         steps
     }
@@ -148,17 +106,9 @@ impl<K: Keeper, I: Index> Open<K, I> {
         ensures after { content self.new ≡ after (content self.old) (tell (differ a b) (length table.old)) (differ_reply result) }
         ensures table { ToldTable (pictures_on self.old) (entries_on self.old ++ differ a b ∷ []) table.old table.new result }
     {
-        let n = self.pictures.len();
-        let taken = self.entries.len();
-        let entry = check_entry(table.len(), n, taken, a, b)?;
-        if together(&mut self.keeper, a, b) {
-            let steps = self.explainer.explain(
-                table,
-                self.pictures.as_slice(),
-                self.journal.as_slice(),
-                a,
-                b,
-            );
+        let entry = check_entry(table.len(), self.picture_count(), self.entry_count(), a, b)?;
+        if self.congruence.together(a, b) {
+            let steps = self.explain(table, a, b);
             return Err(SheetFault::Contradiction(Clash {
                 broken: entry,
                 steps,

@@ -12,7 +12,6 @@ ghost use Rattle.engines.specs.Values.{Value, Bearer};
 use crate::fault::SheetFault;
 use crate::open::Open;
 use crate::open::checks::missing;
-use congruence::rooting::{lowest, roots};
 use indexes::{Index, Row};
 use keepers::Keeper;
 
@@ -25,7 +24,7 @@ impl<K: Keeper, I: Index> Open<K, I> {
         ensures answer { Lowest (pictures_on self.old) (entries_on self.old) p result }
         ensures same { content self.new ≡ content self.old }
     {
-        lowest(&mut self.keeper, p)
+        self.congruence.lowest(p)
     }
 
     // Whether a number is the value of a picture: a picture that is the lowest in its class.
@@ -35,7 +34,7 @@ impl<K: Keeper, I: Index> Open<K, I> {
         ensures answer { Decides result (Value (pictures_on self.old) (entries_on self.old) x) }
         ensures same { content self.new ≡ content self.old }
     {
-        if missing(self.pictures.len(), x) {
+        if missing(self.picture_count(), x) {
             return false;
         }
         self.lowest_of(x) == x
@@ -64,8 +63,7 @@ impl<K: Keeper, I: Index> Open<K, I> {
         ensures answer { Bearer (pictures_on self.old) (entries_on self.old) op (cells_of row.now) result }
         ensures same { content self.new ≡ content self.old }
     {
-        let signature = roots(&mut self.keeper, row);
-        self.index.query(op, signature.as_slice())
+        self.congruence.bearer(op, row)
     }
 
     // The value of a picture, for a sheet that is locked.
@@ -75,7 +73,7 @@ impl<K: Keeper, I: Index> Open<K, I> {
         ensures answer { Answers K.Keeper.limit (content self.old) (asking_value p) (value_reply result) }
         ensures same { content self.new ≡ content self.old }
     {
-        if missing(self.pictures.len(), p) {
+        if missing(self.picture_count(), p) {
             return Err(SheetFault::NoPicture);
         }
         Ok(self.lowest_of(p))

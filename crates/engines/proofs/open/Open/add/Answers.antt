@@ -1,167 +1,119 @@
-use Rattle.std.proofs.Common.{◌≡◌, ℕ, ◌<◌, ◌≤◌, true, false, List, [], ◌∷◌, ◌++◌, map, length, take, drop, vec_items, All, sym, refl, ap, ◌∙◌, subst, subst₂, inl, inr, arith}
+use Rattle.std.proofs.Common.{◌≡◌, ℕ, ◌+◌, ◌<◌, false, Err, Result, List, [], ◌∷◌, ◌++◌, length, vec_items, All, sym, refl, ap, ◌∙◌, subst, inl, inr, arith}
+use Rattle.std.proofs.lemmas.List.{length-map, length_push}
 use Rattle.std.proofs.lemmas.List.Elements.{All-weaker}
-use Rattle.std.proofs.lemmas.List.{length-map, length_push, map-append}
+use Rattle.std.proofs.lemmas.Result.{err_from_is_err_and}
 use Rattle.theory.specs.Sheet.{Picture, On, Lowest}
-use Rattle.keepers.specs.Meaning.{rep, Within}
+use Rattle.theory.specs.Calls.{Answers, after, add}
+use Rattle.keepers.specs.Meaning.{Upto}
 use Rattle.indexes.specs.Rows.{cells_of}
 use Rattle.indexes.specs.Meaning.{held}
-use Rattle.congruence.specs.declared.picture.Picture.{Picture as Held}
-use Rattle.congruence.specs.declared.picture.Note.{Note}
 use Rattle.congruence.specs.Drawn.{drawn, sheet}
-use Rattle.congruence.specs.Working.{Grows, Any}
-use Rattle.congruence.specs.Waiting.{Working, Idle}
-use Rattle.congruence.proofs.Growing.{grown_working}
+use Rattle.congruence.specs.Waiting.{Working}
 use Rattle.congruence.proofs.Resting.{lowest_told}
+use Rattle.congruence.proofs.Tiers.{works_holds}
 use Rattle.engines.specs.Content.{pictures_on, entries_on, content}
 use Rattle.engines.specs.Checks.{any_absent}
-use Rattle.engines.specs.Whole.{Rests}
+use Rattle.engines.specs.Faults.{fault_of, add_reply}
+use Rattle.engines.specs.declared.answer.Added.{Added}
+use Rattle.engines.specs.declared.fault.SheetFault.{SheetFault}
+use Rattle.engines.specs.declared.fault.SheetFault.TheVariants.{Full}
 use Rattle.engines.proofs.Adding.{added_rests, add_missing, add_full, add_added, on_all}
-use Rattle.engines.proofs.Telling.{rests_same}
-use Rattle.engines.proofs.Stopping.{lent}
+use Rattle.engines.proofs.Alikes.{whole_alike, content_alike}
 use Rattle.engines.proofs.open.Open.add.Goals as goal
 
 pub returns-then-any_missing : goal.returns-then-any_missing
 returns-then-any_missing g c =
     let s = c.args.self.now in
-    let en : c.len-n.result ≡ length (pictures_on s) = c.len-n.ensures ∙ (s.pictures.ok.0 ∙ sym (length-map (vec_items s.pictures) drawn)) in
     record {
       whole = c.requires;
-      answer = add_missing g.K.Keeper.limit (content s) c.args.op c.len-n.result c.args.inputs.now en c.in-Some.ensures.1 (sym c.if-any_missing.ensures);
+      answer = add_missing g.K.Keeper.limit (content s) c.args.op c.picture_count-n.result c.args.inputs.now c.picture_count-n.ensures c.in-Some.ensures.1 (sym c.if-any_missing.ensures);
       after = refl;
     }
 
 pub returns-then-n-ge1024 : goal.returns-then-n-ge1024
 returns-then-n-ge1024 g c =
     let s = c.args.self.now in
-    let en : c.len-n.result ≡ length (pictures_on s) = c.len-n.ensures ∙ (s.pictures.ok.0 ∙ sym (length-map (vec_items s.pictures) drawn)) in
     record {
       whole = c.requires;
-      answer = add_full g.K.Keeper.limit (content s) c.args.op c.len-n.result c.args.inputs.now en c.in-Some.ensures.1 (sym c.if-any_missing.ensures)
-          (inl (omega (arith, c.if-n-ge1024.true, en)));
+      answer = add_full g.K.Keeper.limit (content s) c.args.op c.picture_count-n.result c.args.inputs.now c.picture_count-n.ensures c.in-Some.ensures.1 (sym c.if-any_missing.ensures)
+          (inl (omega (arith, c.if-n-ge1024.true, c.picture_count-n.ensures)));
       after = refl;
     }
 
-pub returns-in-Err : goal.returns-in-Err
-returns-in-Err g c =
+pub draw-requires : goal.draw-requires
+draw-requires g c =
     let s = c.args.self.now in
-    let rs = g.K.Keeper.reps s.keeper in
-    let h = c.in-Err.ensures in
-    let en : c.len-n.result ≡ length (pictures_on s) = c.len-n.ensures ∙ (s.pictures.ok.0 ∙ sym (length-map (vec_items s.pictures) drawn)) in
+    let ps = vec_items s.congruence.pictures in
+    let l = length-map ps drawn in
+    let on : All (On (pictures_on s)) (cells_of c.in-Some.row) =
+    subst (All (On (pictures_on s))) (sym c.in-Some.ensures.0) (on_all g.K.Keeper.limit (content s) c.args.op c.picture_count-n.result c.args.inputs.now c.picture_count-n.ensures c.in-Some.ensures.1 (sym c.if-any_missing.ensures)) in
     record {
-      whole = rests_same g.K.Keeper.limit rs (g.K.Keeper.reps c.grow.new.self) (pictures_on s) (entries_on s) (vec_items s.notes) (held (g.I.Index.leads s.index)) (vec_items s.journal) h.2 c.requires;
-      answer = add_full g.K.Keeper.limit (content s) c.args.op c.len-n.result c.args.inputs.now en c.in-Some.ensures.1 (sym c.if-any_missing.ensures)
-          (inr (omega (arith, h.0, c.requires.working.ready.counted)));
-      after = refl;
+      holds = works_holds g.K.Keeper g.I.Index s.congruence (g.met.K.Keeper.settled s.congruence.keeper) c.requires.working;
+      fed = All-weaker (On (pictures_on s)) (Upto (length ps)) (λ p o. (o.0, omega (arith, o.1, l))) (cells_of c.in-Some.row) on;
+      few = omega (arith, c.if-n-ge1024.false, c.picture_count-n.ensures, l);
     }
 
-pub roots-signature-requires : goal.roots-signature-requires
-roots-signature-requires g c =
+pub returns-in_err-number : goal.returns-in_err-number
+returns-in_err-number g c =
     let s = c.args.self.now in
-    let P = pictures_on s in
-    let E = entries_on s in
     let cap = g.K.Keeper.limit in
-    let rs = g.K.Keeper.reps s.keeper in
-    let rs' = g.K.Keeper.reps c.grow.new.self in
-    let N = vec_items s.notes in
-    let m = held (g.I.Index.leads s.index) in
-    let J = vec_items s.journal in
-    let is = c.args.inputs.now in
-    let n : ℕ = c.in-Ok.number in
-    let p : Held = record { op = c.args.op; inputs = c.in-Some.row } in
-    let x : Picture = drawn p in
-    let ei : x.inputs ≡ is = c.in-Some.ensures.0 in
-    let short : length x.inputs ≤ 4 = omega (arith, ap length ei, c.in-Some.ensures.1) in
-    let en : c.len-n.result ≡ length P = c.len-n.ensures ∙ (s.pictures.ok.0 ∙ sym (length-map (vec_items s.pictures) drawn)) in
-    let none : any_absent c.len-n.result is ≡ false = sym c.if-any_missing.ensures in
-    let grown = c.in-Ok.ensures in
-    let few : length P < 1024 = omega (arith, c.if-n-ge1024.false, en) in
-    let fed : All (On P) x.inputs = subst (All (On P)) (sym ei) (on_all cap (content s) c.args.op c.len-n.result is en c.in-Some.ensures.1 none) in
-    let l = ap length grown.2 ∙ length_push rs n in
-    All-weaker (On P) (Within rs') (λ y o. (o.0, omega (arith, o.1, l, c.requires.working.ready.counted))) x.inputs fed
-
-pub settle-requires : goal.settle-requires
-settle-requires g c =
-    let s = c.args.self.now in
-    let P = pictures_on s in
-    let E = entries_on s in
-    let cap = g.K.Keeper.limit in
-    let rs = g.K.Keeper.reps s.keeper in
-    let rs' = g.K.Keeper.reps c.grow.new.self in
-    let N = vec_items s.notes in
-    let m = held (g.I.Index.leads s.index) in
-    let J = vec_items s.journal in
-    let is = c.args.inputs.now in
-    let n : ℕ = c.in-Ok.number in
-    let p : Held = record { op = c.args.op; inputs = c.in-Some.row } in
-    let x : Picture = drawn p in
-    let ei : x.inputs ≡ is = c.in-Some.ensures.0 in
-    let short : length x.inputs ≤ 4 = omega (arith, ap length ei, c.in-Some.ensures.1) in
-    let en : c.len-n.result ≡ length P = c.len-n.ensures ∙ (s.pictures.ok.0 ∙ sym (length-map (vec_items s.pictures) drawn)) in
-    let none : any_absent c.len-n.result is ≡ false = sym c.if-any_missing.ensures in
-    let grown = c.in-Ok.ensures in
-    let few : length P < 1024 = omega (arith, c.if-n-ge1024.false, en) in
-    let fed : All (On P) x.inputs = subst (All (On P)) (sym ei) (on_all cap (content s) c.args.op c.len-n.result is en c.in-Some.ensures.1 none) in
-    let note : Note = record { row = c.roots-signature.result; waits = true } in
-    let own_row : cells_of note.row ≡ map (rep rs') x.inputs = c.roots-signature.ensures.answer in
-    let pushed : vec_items c.push_reserved.new.self ≡ vec_items s.pictures ++ p ∷ [] = c.push_reserved.ensures.items in
-    let noted : vec_items c.push_reserved-in-Ok.new.self ≡ N ++ note ∷ [] = c.push_reserved-in-Ok.ensures.items in
-    let ep : sheet (vec_items c.push_reserved.new.self) ≡ P ++ x ∷ [] = ap sheet pushed ∙ map-append drawn (vec_items s.pictures) (p ∷ []) in
-    let eq : sheet c.as_slice.result.now ≡ P ++ x ∷ [] = ap sheet c.as_slice.ensures.value ∙ ep in
-    let w = grown_working rs rs' P x N note m J n c.requires.working (g.met.K.Keeper.settled s.keeper) few grown.1 grown.2 fed short own_row refl in
-    let e = c.as_mut_slice.ensures.value ∙ noted in
+    let es = vec_items s.entries in
+    let d = c.in_err-number.ensures.drawn in
+    let p = err_from_is_err_and c.from_residual.result c.from_residual.ensures.1 in
+    let q : c.from_residual.result ≡ Err Full = p.1 ∙ ap Err (p.2 ∙ ap fault_of d.1) in
+    let full = add_full cap (content s) c.args.op c.picture_count-n.result c.args.inputs.now c.picture_count-n.ensures c.in-Some.ensures.1 (sym c.if-any_missing.ensures)
+    (inr (omega (arith, d.0, c.requires.working.ready.counted))) in
     record {
-      working = subst (λ (ts : List ℕ). Working ts (sheet c.as_slice.result.now) c.as_mut_slice.result.now m J) (sym c.roots-signature.ensures.same)
-          (subst₂ (λ (Q : List Picture) (X : List Note). Working rs' Q X m J) (sym eq) (sym e) w);
-      room = s.journal_room;
+      whole = whole_alike g.K.Keeper g.I.Index s.congruence c.draw.new.self d.2 es es refl cap c.requires;
+      answer = subst (λ (r : Result Added SheetFault). Answers cap (content s) (add c.args.op c.args.inputs.now) (add_reply r)) (sym q) full;
+      after = content_alike g.K.Keeper g.I.Index s.congruence c.draw.new.self d.2 es es refl
+          ∙ ap (λ (r : Result Added SheetFault). after (content s) (add c.args.op c.args.inputs.now) (add_reply r)) (sym q);
     }
 
-pub returns-in-Ok : goal.returns-in-Ok
-returns-in-Ok g c =
+pub lowest-lowest-requires : goal.lowest-lowest-requires
+lowest-lowest-requires g c =
+    let d = c.in_ok-number.ensures.drawn in
+    let w = c.in_ok-number.ensures.working c.requires.working in
+    let x : Picture = record { operation = c.args.op; inputs = cells_of c.in-Some.row } in
+    (omega (arith, d.1), omega (arith, d.1, w.ready.counted, c.requires.working.ready.counted, ap length d.2, length_push (pictures_on c.args.self.now) x))
+
+pub returns : goal.returns
+returns g c =
     let s = c.args.self.now in
     let P = pictures_on s in
     let E = entries_on s in
     let cap = g.K.Keeper.limit in
-    let rs = g.K.Keeper.reps s.keeper in
-    let rs' = g.K.Keeper.reps c.grow.new.self in
-    let N = vec_items s.notes in
-    let m = held (g.I.Index.leads s.index) in
-    let J = vec_items s.journal in
+    let rs = g.K.Keeper.reps s.congruence.keeper in
+    let ps = vec_items s.congruence.pictures in
+    let m = held (g.I.Index.leads s.congruence.index) in
+    let J = vec_items s.congruence.journal in
     let is = c.args.inputs.now in
-    let n : ℕ = c.in-Ok.number in
-    let p : Held = record { op = c.args.op; inputs = c.in-Some.row } in
-    let x : Picture = drawn p in
-    let ei : x.inputs ≡ is = c.in-Some.ensures.0 in
-    let short : length x.inputs ≤ 4 = omega (arith, ap length ei, c.in-Some.ensures.1) in
-    let en : c.len-n.result ≡ length P = c.len-n.ensures ∙ (s.pictures.ok.0 ∙ sym (length-map (vec_items s.pictures) drawn)) in
-    let none : any_absent c.len-n.result is ≡ false = sym c.if-any_missing.ensures in
-    let grown = c.in-Ok.ensures in
-    let few : length P < 1024 = omega (arith, c.if-n-ge1024.false, en) in
-    let fed : All (On P) x.inputs = subst (All (On P)) (sym ei) (on_all cap (content s) c.args.op c.len-n.result is en c.in-Some.ensures.1 none) in
-    let note : Note = record { row = c.roots-signature.result; waits = true } in
-    let own_row : cells_of note.row ≡ map (rep rs') x.inputs = c.roots-signature.ensures.answer in
-    let pushed : vec_items c.push_reserved.new.self ≡ vec_items s.pictures ++ p ∷ [] = c.push_reserved.ensures.items in
-    let noted : vec_items c.push_reserved-in-Ok.new.self ≡ N ++ note ∷ [] = c.push_reserved-in-Ok.ensures.items in
-    let ep : sheet (vec_items c.push_reserved.new.self) ≡ P ++ x ∷ [] = ap sheet pushed ∙ map-append drawn (vec_items s.pictures) (p ∷ []) in
-    let eq : sheet c.as_slice.result.now ≡ P ++ x ∷ [] = ap sheet c.as_slice.ensures.value ∙ ep in
-    let rs'' = g.K.Keeper.reps c.settle.new.k in
-    let m'' = held (g.I.Index.leads c.settle.new.index) in
-    let J'' = vec_items c.settle.new.journal in
-    let N'' = c.settle.new.notes in
-    let w'' : Working rs'' (P ++ x ∷ []) N'' m'' J'' = subst (λ (Q : List Picture). Working rs'' Q N'' m'' J'') eq c.settle.ensures.working in
-    let idle : Idle (P ++ x ∷ []) N'' = subst (λ (Q : List Picture). Idle Q N'') eq c.settle.ensures.idle in
-    let grows : Grows (P ++ x ∷ []) Any J J'' = subst (λ (Q : List Picture). Grows Q Any J J'') eq c.settle.ensures.grows in
-    let room : length P < cap = omega (arith, grown.0, c.requires.room, c.requires.working.ready.counted) in
-    let w = added_rests cap rs rs' rs'' P x E N N'' note m m'' J J'' n c.requires (g.met.K.Keeper.settled s.keeper) few grown.1 grown.2 fed short own_row refl room w'' idle grows in
-    let v = c.push_reserved-in-Ok.new.self in
-    let X'' : List Note = take v.len (N'' ++ drop (length N'') v.items) in
-    let back : X'' ≡ N'' = lent N'' v.items v.len (c.settle.auto.notes ∙ c.as_mut_slice.ensures.len) in
-    let on : On (P ++ x ∷ []) n = (omega (arith, grown.1), omega (arith, grown.1, c.requires.working.ready.counted, length_push P x)) in
-    let low : Lowest (P ++ x ∷ []) E n c.lowest-lowest.result = lowest_told rs'' (P ++ x ∷ []) E n c.lowest-lowest.result w''.ready w.closes on c.lowest-lowest.ensures.answer in
-    let same-x : x ≡ record { operation = c.args.op; inputs = is } = ap (λ (ys : List ℕ). record { operation = c.args.op; inputs = ys }) ei in
+    let n : ℕ = c.in_ok-number.number in
+    let o = c.draw.new.self in
+    let rs' = g.K.Keeper.reps o.keeper in
+    let ps' = vec_items o.pictures in
+    let m' = held (g.I.Index.leads o.index) in
+    let J' = vec_items o.journal in
+    let x : Picture = record { operation = c.args.op; inputs = is } in
+    let d = c.in_ok-number.ensures.drawn in
+    let w = c.requires.working in
+    let none : any_absent c.picture_count-n.result is ≡ false = sym c.if-any_missing.ensures in
+    let short = c.in-Some.ensures.1 in
+    let fed = on_all cap (content s) c.args.op c.picture_count-n.result is c.picture_count-n.ensures short none in
+    let few : length P < 1024 = omega (arith, c.if-n-ge1024.false, c.picture_count-n.ensures) in
+    let room : length P < cap = omega (arith, d.0, c.requires.room, w.ready.counted) in
+    let drawn-so : sheet ps' ≡ P ++ x ∷ [] = d.2 ∙ ap (λ (ys : List ℕ). P ++ record { operation = c.args.op; inputs = ys } ∷ []) c.in-Some.ensures.0 in
+    let w' : Working rs' ps' m' J' = c.in_ok-number.ensures.working w in
+    let rests' = added_rests cap rs rs' ps ps' x E m m' J J' c.requires drawn-so fed room w' (c.in_ok-number.ensures.idle w c.requires.idle) (c.in_ok-number.ensures.grows w) in
+    let en : n ≡ length P + 1 = omega (arith, d.1, w.ready.counted) in
+    let on : On (sheet ps') n = (omega (arith, en), omega (arith, en, ap length drawn-so, length_push P x)) in
+    let low : Lowest (sheet ps') E n c.lowest-lowest.result = lowest_told rs' (sheet ps') E n c.lowest-lowest.result w'.ready rests'.closes on c.lowest-lowest.ensures.answer in
+    let es = vec_items s.entries in
+    let same = c.lowest-lowest.ensures.same in
     record {
-      whole = rests_same cap rs'' (g.K.Keeper.reps c.lowest-lowest.new.k) (sheet (vec_items c.push_reserved.new.self)) E X'' m'' J'' c.lowest-lowest.ensures.same
-          (subst₂ (λ (Q : List Picture) (X : List Note). Rests cap rs'' Q E X m'' J'') (sym ep) (sym back) w);
-      answer = add_added cap (content s) c.args.op c.len-n.result is en c.in-Some.ensures.1 none few room n c.lowest-lowest.result (omega (arith, grown.1, c.requires.working.ready.counted))
-          (subst (λ (y : Picture). Lowest (P ++ y ∷ []) E n c.lowest-lowest.result) same-x low);
-      after = ap (λ (Q : List Picture). record { locked = false; pictures = Q; entries = E }) (ep ∙ ap (λ (y : Picture). P ++ y ∷ []) same-x);
+      whole = whole_alike g.K.Keeper g.I.Index o c.lowest-lowest.new.self same es es refl cap rests';
+      answer = add_added cap (content s) c.args.op c.picture_count-n.result is c.picture_count-n.ensures short none few room n c.lowest-lowest.result en
+          (subst (λ (Q : List Picture). Lowest Q E n c.lowest-lowest.result) drawn-so low);
+      after = content_alike g.K.Keeper g.I.Index o c.lowest-lowest.new.self same es es refl
+          ∙ ap (λ (Q : List Picture). record { locked = false; pictures = Q; entries = E }) drawn-so;
     }

@@ -11,8 +11,8 @@ use Rattle.engines.proofs.open.Open.is_value.Goals as goal
 pub returns-then-missing : goal.returns-then-missing
 returns-then-missing g c =
     let s = c.args.self.now in
-    let en : c.len.result ≡ length (pictures_on s) = c.len.ensures ∙ (s.pictures.ok.0 ∙ sym (length-map (vec_items s.pictures) drawn)) in
-    let none = not_present c.len.result c.args.x (sym c.if-missing.ensures) in
+    let en = c.picture_count.ensures in
+    let none = not_present c.picture_count.result c.args.x (sym c.if-missing.ensures) in
     record {
       whole = c.requires;
       answer = ((λ e. absurd (both_ways false refl e)), λ v. absurd (none (v.0.0.0, omega (arith, v.0.0.1, en))));
@@ -22,8 +22,8 @@ returns-then-missing g c =
 pub returns : goal.returns
 returns g c =
     let s = c.args.self.now in
-    let en : c.len.result ≡ length (pictures_on s) = c.len.ensures ∙ (s.pictures.ok.0 ∙ sym (length-map (vec_items s.pictures) drawn)) in
-    let here = present c.len.result c.args.x (sym c.if-missing.ensures) in
+    let en = c.picture_count.ensures in
+    let here = present c.picture_count.result c.args.x (sym c.if-missing.ensures) in
     let on : On (pictures_on s) c.args.x = (here.0, omega (arith, here.1, en)) in
     record {
       whole = c.lowest_of.ensures.whole;

@@ -1,24 +1,31 @@
-use Rattle.std.proofs.Common.{◌≡◌, length, vec_items, sym, refl, ◌∙◌, arith}
-use Rattle.std.proofs.lemmas.List.{length-map}
+use Rattle.std.proofs.Common.{refl, vec_items, arith}
 use Rattle.theory.specs.Sheet.{On}
 use Rattle.keepers.specs.Meaning.{rep}
-use Rattle.congruence.specs.Drawn.{drawn}
-use Rattle.indexes.specs.Meaning.{held}
+use Rattle.congruence.proofs.Journals.{within}
 use Rattle.engines.specs.Content.{pictures_on, entries_on, content}
-use Rattle.engines.proofs.Telling.{rests_same}
+use Rattle.engines.proofs.Alikes.{whole_alike, content_alike}
 use Rattle.engines.proofs.Stopping.{must_answers}
 use Rattle.engines.proofs.open.Open.must.Goals as goal
+
+pub together-requires : goal.together-requires
+together-requires g c =
+    let s = c.args.self.now in
+    let both = c.in_ok-check_pair.ensures in
+    let en = c.picture_count.ensures in
+    let on = within (g.K.Keeper.reps s.congruence.keeper) (pictures_on s) c.requires.working.ready in
+    (on c.args.a (both.0.0, omega (arith, both.0.1, en)), on c.args.b (both.1.0, omega (arith, both.1.1, en)))
 
 pub returns : goal.returns
 returns g c =
     let s = c.args.self.now in
-    let rs = g.K.Keeper.reps s.keeper in
-    let en : c.len.result ≡ length (pictures_on s) = c.len.ensures ∙ (s.pictures.ok.0 ∙ sym (length-map (vec_items s.pictures) drawn)) in
+    let en = c.picture_count.ensures in
     let both = c.in_ok-check_pair.ensures in
     let oa : On (pictures_on s) c.args.a = (both.0.0, omega (arith, both.0.1, en)) in
     let ob : On (pictures_on s) c.args.b = (both.1.0, omega (arith, both.1.1, en)) in
+    let es = vec_items s.entries in
+    let same = c.together.ensures.same in
     record {
-      whole = rests_same g.K.Keeper.limit rs (g.K.Keeper.reps c.together.new.k) (pictures_on s) (entries_on s) (vec_items s.notes) (held (g.I.Index.leads s.index)) (vec_items s.journal) c.together.ensures.same c.requires;
-      answer = must_answers g.K.Keeper.limit (content s) (rep rs) c.args.a c.args.b c.together.result c.requires.closes oa ob c.together.ensures.answer;
-      same = refl;
+      whole = whole_alike g.K.Keeper g.I.Index s.congruence c.together.new.self same es es refl g.K.Keeper.limit c.requires;
+      answer = must_answers g.K.Keeper.limit (content s) (rep (g.K.Keeper.reps s.congruence.keeper)) c.args.a c.args.b c.together.result c.requires.closes oa ob c.together.ensures.answer;
+      same = content_alike g.K.Keeper g.I.Index s.congruence c.together.new.self same es es refl;
     }

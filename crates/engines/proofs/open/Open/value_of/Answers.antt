@@ -10,8 +10,8 @@ use Rattle.engines.proofs.open.Open.value_of.Goals as goal
 pub returns-then-missing : goal.returns-then-missing
 returns-then-missing g c =
     let s = c.args.self.now in
-    let en : c.len.result ≡ length (pictures_on s) = c.len.ensures ∙ (s.pictures.ok.0 ∙ sym (length-map (vec_items s.pictures) drawn)) in
-    let none = not_present c.len.result c.args.p (sym c.if-missing.ensures) in
+    let en = c.picture_count.ensures in
+    let none = not_present c.picture_count.result c.args.p (sym c.if-missing.ensures) in
     record {
       whole = c.requires;
       answer = inl ((λ o. none (o.0, omega (arith, o.1, en))), refl);
@@ -21,8 +21,8 @@ returns-then-missing g c =
 pub returns : goal.returns
 returns g c =
     let s = c.args.self.now in
-    let en : c.len.result ≡ length (pictures_on s) = c.len.ensures ∙ (s.pictures.ok.0 ∙ sym (length-map (vec_items s.pictures) drawn)) in
-    let here = present c.len.result c.args.p (sym c.if-missing.ensures) in
+    let en = c.picture_count.ensures in
+    let here = present c.picture_count.result c.args.p (sym c.if-missing.ensures) in
     let on : On (pictures_on s) c.args.p = (here.0, omega (arith, here.1, en)) in
     record {
       whole = c.lowest_of.ensures.whole;

@@ -1,0 +1,22 @@
+use Rattle.std.proofs.Common.{List, length, vec_items, ap, refl, subst₂, arith}
+use Rattle.std.proofs.lemmas.List.{length-map}
+use Rattle.congruence.specs.declared.picture.Picture.{Picture as Held}
+use Rattle.congruence.specs.declared.journal.Join.{Join}
+use Rattle.congruence.specs.Drawn.{drawn, sheet, reasons}
+use Rattle.reasons.specs.Table.{Explained}
+use Rattle.engines.proofs.open.Open.explain.Goals as goal
+
+pub invariant_of-asked : goal.invariant_of-asked
+invariant_of-asked g c = record { few = let w = c.requires.working in omega (arith, w.books.few, w.ready.few, ap length c.journal.ensures) }
+
+pub explain-requires : goal.explain-requires
+explain-requires g c = let w = c.requires.working in omega (arith, w.books.few, w.ready.few, ap length c.journal.ensures, c.requires.cells)
+
+pub returns : goal.returns
+returns g c =
+    record {
+      congruence = refl;
+      entries = refl;
+      explained = subst₂ (λ (ps : List Held) (js : List Join). Explained (sheet ps) (reasons js) c.args.a c.args.b c.explain.result c.args.table.now c.explain.new.table)
+          c.pictures.ensures c.journal.ensures c.explain.ensures.explained;
+    }
