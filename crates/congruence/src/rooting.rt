@@ -13,10 +13,7 @@ pub fn root<K: Keeper>(k: &mut K, p: u16) -> u16
     ensures answer { result ≡ rep (K.reps k.old) p }
     ensures same { K.reps k.new ≡ K.reps k.old }
 {
-    match k.find(p) {
-        Ok(r) => r,
-        Err(_) => unreachable(),
-    }
+    k.find(p).unwrap()
 }
 
 // Whether two pictures are in one class.
@@ -67,8 +64,8 @@ pub fn classes<K: Keeper>(k: &mut K, n: u16) -> u16
     ensures same { K.reps k.new ≡ K.reps k.old }
 {
     let mut c = 0;
-    for i in 0..n {
-        if root(k, i + 1) == i + 1 {
+    for p in 1..=n {
+        if root(k, p) == p {
             c += 1;
         }
     }
@@ -81,9 +78,7 @@ pub fn unite<K: Keeper>(k: &mut K, join: &Join)
     requires apart { rep (K.reps k.old) join.now.left ≢ rep (K.reps k.old) join.now.right }
     ensures { Unites join.now.left join.now.right (K.reps k.old) (K.reps k.new) }
 {
-    match k.join(join.left, join.right) {
-        Ok(Outcome::Merged) => {}
-        Ok(Outcome::Already) => unreachable(),
-        Err(_) => unreachable(),
-    }
+    let Ok(Outcome::Merged) = k.join(join.left, join.right) else {
+        unreachable!()
+    };
 }

@@ -15,12 +15,10 @@ use std::alloc::{AllocError, Global};
 
 impl<K: Keeper + Drop, I: Index + Drop> Congruence<K, I> {
     // No picture yet, with this keeper and this index, both reset first. All memory is taken here.
-    pub fn new(heap: Global, keeper: K, index: I) -> Result<Congruence<K, I>, AllocError>
+    pub fn new(heap: Global, mut keeper: K, mut index: I) -> Result<Congruence<K, I>, AllocError>
         ensures works { IfOk result (λ c. Works K.Keeper I.Index c) }
         ensures empty { IfOk result (λ c. (c.pictures.items ≡ []) × (c.journal.items ≡ [])) }
     {
-        let mut keeper = keeper;
-        let mut index = index;
         keeper.reset();
         index.reset();
         let pictures = Vec::with_capacity(heap, 1024)?;

@@ -56,7 +56,7 @@ fn withdraw_all<I: Index>(index: &mut I, pictures: &mut [Picture], lost: u16, he
     ensures rows { (p : ℕ) → On (sheet pictures.old) p → noted pictures.new p ≡ map (moved lost heir) (noted pictures.old p) }
     ensures posted { (f : ℕ → ℕ) → Posted f (sheet pictures.old) (noted pictures.old) (held (I.leads index.old)) (waits pictures.old) (Free lost) → Posted f (sheet pictures.old) (noted pictures.new) (held (I.leads index.new)) (waits pictures.new) (Free lost) }
 {
-    for picture in pictures.iter_mut() {
+    for picture in pictures {
         withdraw(index, picture, lost, heir);
     }
 }

@@ -70,9 +70,8 @@ impl<K: Keeper, I: Index> Congruence<K, I> {
         ensures working { Works K.Keeper I.Index self.old → Works K.Keeper I.Index self.new }
         ensures swept { Works K.Keeper I.Index self.old → Swept (rep (K.reps self.old.keeper)) self.new.pictures.items result }
     {
-        for i in 0..self.pictures.len() {
-            let p = i as u16 + 1;
-            if let Some(q) = look(&mut self.keeper, &mut self.index, &mut self.pictures[i], p) {
+        for p in 1..=self.pictures.len() as u16 {
+            if let Some(q) = look(&mut self.keeper, &mut self.index, &mut self.pictures[p as usize - 1], p) {
                 return Some(Join {
                     left: p,
                     right: q,
