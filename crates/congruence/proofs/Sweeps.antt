@@ -4,15 +4,15 @@ use Rattle.std.proofs.Math.Seq.{map-set_same}
 use Rattle.std.proofs.lemmas.Bool.{cases_eq, both_ways}
 use Rattle.std.proofs.lemmas.List.{length-map, get_or-map, set-get_or}
 use Rattle.theory.specs.Sheet.{Picture, blank, picture, On, operation}
-use Rattle.keepers.specs.Meaning.{Upto, Within, rep, moved}
-use Rattle.indexes.specs.Rows.{cells_of}
+use Rattle.keepers.specs.Meaning.{Upto, rep, moved}
+use Rattle.rows.specs.Row.{cells_of}
 use Rattle.indexes.specs.Meaning.{Lead, held, apart, leading, refused, enter_fault}
 use Rattle.indexes.specs.declared.index.IndexFault.{IndexFault}
 use Rattle.indexes.specs.Refusing.{taken_new}
 use Rattle.congruence.specs.declared.picture.Picture.{Picture as Held}
 use Rattle.congruence.specs.Drawn.{drawn, sheet}
 use Rattle.congruence.specs.Working.{Ready, Inward}
-use Rattle.congruence.specs.Waiting.{noted, waits, uses, Free, Every, Noted, Posted, Going, TwinsApart, Visited, Looked, Withdrawn}
+use Rattle.congruence.specs.Waiting.{noted, waits, uses, Free, Every, Posted, Going, TwinsApart, Visited, Looked, Withdrawn}
 use Rattle.congruence.proofs.Posts.{at_number, at_set, at_other, free_renamed, posted_shift, posted_index, posted_visited, posted_apart}
 use Rattle.congruence.proofs.Pigeons.{pigeons_but}
 use Rattle.congruence.proofs.Inwards.{deleted_inward}

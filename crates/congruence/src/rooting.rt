@@ -1,6 +1,6 @@
 ghost use Rattle.std.specs.Prelude.{◌≡◌, ℕ, ◌+◌, ◌<◌, ◌≤◌, ◌≢◌, List, map, length, All, ◌==◌};
 ghost use Rattle.keepers.specs.Meaning.{rep, Within, Upto, Unites, class_count};
-ghost use Rattle.indexes.specs.Rows.{cells_of};
+ghost use Rattle.rows.specs.Row.{cells_of};
 ghost use Rattle.congruence.specs.Working.{Lowest};
 
 use crate::journal::Join;
@@ -31,16 +31,11 @@ pub fn roots<K: Keeper>(k: &mut K, row: &Row) -> Row
     ensures answer { cells_of result ≡ map (rep (K.reps k.old)) (cells_of row.now) }
     ensures same { K.reps k.new ≡ K.reps k.old }
 {
-    let inputs = row.as_slice();
-    let n = inputs.len();
-    let mut cells = [0u16; 4];
-    for i in 0..n {
-        cells[i] = root(k, inputs[i]);
+    let mut roots = Row::none();
+    for x in row.as_slice() {
+        roots.push(root(k, *x));
     }
-    match Row::new(&cells[0..n]) {
-        Some(r) => r,
-        None => unreachable(),
-    }
+    roots
 }
 
 // The lowest number in the class of a picture.

@@ -1,6 +1,6 @@
 ghost use Rattle.std.specs.Prelude.{◌≡◌, ℕ, ◌<◌, ◌≤◌, [], length, IfOk, All, vec_len, vec_capacity};
 ghost use Rattle.keepers.specs.Meaning.{Upto};
-ghost use Rattle.indexes.specs.Rows.{cells_of};
+ghost use Rattle.rows.specs.Row.{cells_of};
 ghost use Rattle.congruence.specs.Drawn.{sheet};
 ghost use Rattle.congruence.specs.Working.{Grows, Any};
 ghost use Rattle.congruence.specs.Waiting.{Idle};

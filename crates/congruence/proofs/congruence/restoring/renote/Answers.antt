@@ -1,8 +1,8 @@
-use Rattle.std.proofs.Common.{◌≡◌, ℕ, true, List, map, length, get_or, All, sym, refl, ap, ◌∙◌, subst, arith}
+use Rattle.std.proofs.Common.{ℕ, true, List, map, length, get_or, All, sym, refl, ap, ◌∙◌, subst, arith}
 use Rattle.std.proofs.lemmas.List.Elements.{All-get_or}
 use Rattle.std.proofs.lemmas.List.{length-map}
 use Rattle.keepers.specs.Meaning.{rep, Upto}
-use Rattle.indexes.specs.Rows.{cells_of}
+use Rattle.rows.specs.Row.{cells_of}
 use Rattle.congruence.specs.declared.picture.Picture.{Picture as Held}
 use Rattle.congruence.specs.Drawn.{drawn}
 use Rattle.congruence.specs.Working.{Fed}
