@@ -1,6 +1,9 @@
 -- Laws of chains: a head has one chain, its cells differ, and so it is no longer than the table. Assumes nothing.
 use Rattle.std.proofs.Common.{◌≡◌, ℕ, zero, suc, ◌-◌, ◌<◌, ◌≤◌, true, false, cond, eqb, ◌≢◌, List, [], ◌∷◌, length, get_or, drop, set, sym, refl, ap, ◌∙◌, subst, inl, inr, arith, length-drop, length-set, get_or-set_other, get_or-set_same}
-use Rattle.std.proofs.lemmas.Bool.{eqb-true, eqb-false, eq-eqb, ne_eqb, cases_Bool, cond-true, cond-false}
+use Rattle.std.specs.List.{IsDistinct, AllByRecursion, list_any}
+use Rattle.std.proofs.lemmas.Bool.{eqb-true, eq-eqb, ne_eqb, or_cases, cond-true, cond-false, true≢false}
+use Rattle.std.proofs.lemmas.Map.Keys.{IsDistinct-cons}
+use Rattle.std.proofs.lemmas.Map.Steps.{length-le_from_distinct_below}
 use Rattle.chains.specs.Chain.{Chain, Clear, after_cell}
 
 pub chain_unique : (links : List ℕ) (h : ℕ) (p q : List ℕ) → Chain links h p → Chain links h q → p ≡ q
@@ -30,66 +33,38 @@ chain_clear links h k p a =
     let u : drop i p ≡ k ∷ p = chain_unique links k (drop i p) (k ∷ p) c (refl, a.1, a.2, a.3) in
     omega (arith, ap length u, length-drop i p))
 
--- ---- a list of different numbers from 1 to n has at most n of them
-abbrev Differ : List ℕ → Type 0
-Differ [] = Unit {0}
-Differ (k ∷ p) = Clear k p × Differ p
+-- a chain does not have cell 0
+pub no_zero : (links : List ℕ) (h : ℕ) (p : List ℕ) → Chain links h p → Clear 0 p
+no_zero links h [] a = tt
+no_zero links h (k ∷ p) a = ((λ e. omega (arith, e, a.1)), no_zero links (after_cell links k) p a.3)
 
-abbrev Upto : ℕ → List ℕ → Type 0
-Upto n [] = Unit {0}
-Upto n (k ∷ p) = (0 < k) × (k ≤ n) × Upto n p
+-- ---- the cells of a chain differ, and are no more than those of the table
+apart : (k : ℕ) (p : List ℕ) → Clear k p → AllByRecursion (λ j. eqb k j ≡ false) p
+apart k [] c = tt
+apart k (j ∷ p) c = (ne_eqb k j (λ e. c.0 (sym e)), apart k p c.1)
 
-abbrev less : ℕ → List ℕ → List ℕ
-less n [] = []
-less n (k ∷ p) = cond (eqb k n) p (k ∷ less n p)
+distinct : (links : List ℕ) (h : ℕ) (p : List ℕ) → Chain links h p → IsDistinct eqb p
+unfolding IsDistinct
+distinct links h [] a = tt
+distinct links h (k ∷ p) a = (apart k p (chain_clear links h k p a), distinct links (after_cell links k) p a.3)
 
-less_long : (n : ℕ) (p : List ℕ) → length p ≤ suc (length (less n p))
-less_long n [] = omega arith
-less_long n (k ∷ p) =
-    elim (eqb k n) as (λ b. suc (length p) ≤ suc (length (cond b p (k ∷ less n p)))) [ true ↦ omega arith | false ↦ omega (arith, less_long n p) ]
-
-clear_less : (n k : ℕ) (p : List ℕ) → Clear k p → Clear k (less n p)
-clear_less n k [] c = tt
-clear_less n k (j ∷ p) c =
-    elim (eqb j n) as (λ b. Clear k (cond b p (j ∷ less n p))) [ true ↦ c.1 | false ↦ (c.0, clear_less n k p c.1) ]
-
-upto_down : (n : ℕ) (p : List ℕ) → Clear (suc n) p → Upto (suc n) p → Upto n p
-upto_down n [] c u = tt
-upto_down n (k ∷ p) c u = (u.0, omega (arith, c.0, u.1), upto_down n p c.1 u.2)
-
-differ_less : (n : ℕ) (p : List ℕ) → Differ p → Differ (less n p)
-differ_less n [] d = tt
-differ_less n (k ∷ p) d =
-    elim (eqb k n) as (λ b. Differ (cond b p (k ∷ less n p))) [ true ↦ d.1 | false ↦ (clear_less n k p d.0, differ_less n p d.1) ]
-
-upto_less : (n : ℕ) (p : List ℕ) → Differ p → Upto (suc n) p → Upto n (less (suc n) p)
-upto_less n [] d u = tt
-upto_less n (k ∷ p) d u =
-    elim (cases_Bool (eqb k (suc n))) [
-      | inl e ↦
-          let E : k ≡ suc n = eqb-true k (suc n) e in
-          let c : Clear (suc n) p = subst (λ x. Clear x p) E d.0 in
-          subst (λ x. Upto n x) (sym (cond-true (eqb k (suc n)) p (k ∷ less (suc n) p) e)) (upto_down n p c u.2)
-      | inr e ↦
-          let E : k ≡ suc n → ⊥ = eqb-false k (suc n) e in
-          subst (λ x. Upto n x) (sym (cond-false (eqb k (suc n)) p (k ∷ less (suc n) p) e)) (u.0, omega (arith, E, u.1), upto_less n p d.1 u.2)
+upto : (links : List ℕ) (h : ℕ) (p : List ℕ) → Chain links h p → (k : ℕ) → list_any (eqb k) p ≡ true → k ≤ length links
+upto links h [] a k m = absurd (true≢false (sym m))
+upto links h (j ∷ p) a k m =
+    elim (or_cases (eqb k j) (list_any (eqb k) p) m) [
+      | inl e ↦ omega (arith, eqb-true k j e, a.2)
+      | inr r ↦ upto links (after_cell links j) p a.3 k r
     ]
 
-pub few : (n : ℕ) (p : List ℕ) → Differ p → Upto n p → length p ≤ n
-few zero [] d u = omega arith
-few zero (k ∷ p) d u = absurd (omega (arith, u.0, u.1))
-few (suc n) p d u = omega (arith, few n (less (suc n) p) (differ_less (suc n) p d) (upto_less n p d u), less_long (suc n) p)
-
-chain_differ : (links : List ℕ) (h : ℕ) (p : List ℕ) → Chain links h p → Differ p
-chain_differ links h [] a = tt
-chain_differ links h (k ∷ p) a = (chain_clear links h k p a, chain_differ links (after_cell links k) p a.3)
-
-chain_upto : (links : List ℕ) (h : ℕ) (p : List ℕ) → Chain links h p → Upto (length links) p
-chain_upto links h [] a = tt
-chain_upto links h (k ∷ p) a = (a.1, a.2, chain_upto links (after_cell links k) p a.3)
-
+-- with cell 0 in front they are different numbers up to that of the last cell
 pub chain_few : (links : List ℕ) (h : ℕ) (p : List ℕ) → Chain links h p → length p ≤ length links
-chain_few links h p a = few (length links) p (chain_differ links h p a) (chain_upto links h p a)
+chain_few links h p a =
+    let all = length-le_from_distinct_below (0 ∷ p) (suc (length links)) (IsDistinct-cons eqb 0 p (apart 0 p (no_zero links h p a)) (distinct links h p a)) (λ k m.
+    elim (or_cases (eqb k 0) (list_any (eqb k) p) m) [
+      | inl e ↦ omega (arith, eqb-true k 0 e)
+      | inr r ↦ omega (arith, upto links h p a k r)
+    ]) in
+    omega arith
 
 -- ---- the path as it is walked
 abbrev pub trail : ℕ → List ℕ → ℕ → List ℕ

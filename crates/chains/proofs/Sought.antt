@@ -1,9 +1,9 @@
 -- What a search along a chain found; and that a chain is a proposition. Assumes nothing.
-use Rattle.std.proofs.Common.{◌≡◌, ℕ, ◌-◌, Bool, true, false, List, [], ◌∷◌, ◌++◌, get_or, is_some, Some, None, Option, sym, ap, ◌∙◌, subst, inl, inr}
+use Rattle.std.proofs.Common.{◌≡◌, ℕ, ◌-◌, Bool, true, false, List, [], ◌∷◌, ◌++◌, get_or, Some, None, sym, ap, ◌∙◌, subst, inl, inr}
 use native.Mathlib.Bridge.{le_prop}
 use base.Stored.{coded_ℕ}
 use denote.Struct.Props.{≡_prop}
-use Rattle.std.proofs.lemmas.Bool.{cases_Bool, cases_eq, cond-true, cond-false, true≢false}
+use Rattle.std.proofs.lemmas.Bool.{cases_Bool, cases_eq, cond-true, cond-false}
 use Rattle.chains.specs.declared.walks.Found.{Found}
 use Rattle.chains.specs.Chain.{Chain, Clear, last_or, after_cell}
 use Rattle.chains.specs.Seek.{seek}
@@ -19,23 +19,14 @@ pub record Sought (marks : List Bool) (b : ℕ) (p : List ℕ) (f : Found) : Typ
   pub before : f.before ≡ last_or b front
   pub marked : get_or marks (f.cell - 1) false ≡ true
 
-abbrev cell_of : ℕ → Option Found → ℕ
-cell_of d None = d
-cell_of d (Some f) = f.cell
-
-abbrev before_of : ℕ → Option Found → ℕ
-before_of d None = d
-before_of d (Some f) = f.before
-
 pub seek_some : (marks : List Bool) (b : ℕ) (p : List ℕ) (f : Found) → seek marks b p ≡ Some f → Sought marks b p f
-seek_some marks b [] f h = absurd (true≢false (sym (ap is_some h)))
+seek_some marks b [] f h = cc
 seek_some marks b (k ∷ p) f h =
     elim (cases_Bool (get_or marks (k - 1) false)) [
       | inl t ↦
           let e : Some (record { before = b; cell = k }) ≡ Some f = sym (cond-true _ _ _ t) ∙ h in
-          let ec : k ≡ f.cell = ap (cell_of k) e in
-          let eb : b ≡ f.before = ap (before_of b) e in
-          record { front = []; rest = p; is = ap (λ x. x ∷ p) ec; before = sym eb; marked = subst (λ x. get_or marks (x - 1) false ≡ true) ec t }
+          let i : record { before = b; cell = k } ≡ f = cc in
+          record { front = []; rest = p; is = ap (λ x. x.cell ∷ p) i; before = ap (λ x. x.before) (sym i); marked = subst (λ x. get_or marks (x.cell - 1) false ≡ true) i t }
       | inr t ↦
           let s = seek_some marks k p f (sym (cond-false _ _ _ t) ∙ h) in
           record { front = k ∷ s.front; rest = s.rest; is = ap (λ x. k ∷ x) s.is; before = s.before; marked = s.marked }
@@ -45,7 +36,7 @@ pub seek_none : (marks : List Bool) (b : ℕ) (p : List ℕ) → seek marks b p 
 seek_none marks b [] h k n = absurd (n tt)
 seek_none marks b (j ∷ p) h k n =
     elim (cases_Bool (get_or marks (j - 1) false)) [
-      | inl t ↦ absurd (true≢false (ap is_some (sym (cond-true _ _ _ t) ∙ h)))
+      | inl t ↦ let e = sym (cond-true _ _ _ t) ∙ h in cc
       | inr t ↦
           let r : seek marks j p ≡ None = sym (cond-false _ _ _ t) ∙ h in
           elim (cases_eq j k) [

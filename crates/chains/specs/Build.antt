@@ -2,8 +2,8 @@
 use Rattle.std.specs.Prelude.{ℕ, zero, suc, Bool, cond, ◌&&◌, List, [], ◌∷◌, map, Ok, Err, Result, ◌==◌, nat_le, nat_lt}
 use Rattle.chains.specs.Chain.{after_cell}
 use Rattle.chains.specs.declared.walks.Found.{Found}
-use Rattle.chains.specs.declared.builds.ChainFault.{ChainFault}
-use Rattle.chains.specs.declared.builds.ChainFault.TheVariants.{Outside}
+use Rattle.chains.specs.declared.fault.ChainFault.{ChainFault}
+use Rattle.chains.specs.declared.fault.ChainFault.TheVariants.{Outside}
 
 -- k is the number of one of n cells
 abbrev pub is_cell : ℕ → ℕ → Bool

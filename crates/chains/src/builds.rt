@@ -4,15 +4,9 @@ ghost use Rattle.chains.specs.Chain.{Chain, Clear, last_or};
 ghost use Rattle.chains.specs.Build.{is_cell, with_next, appended, unlinked, answered, append_answer, unlink_answer};
 ghost use Rattle.chains.specs.Thread.{first_of, Threaded};
 
+use super::fault::ChainFault;
 use super::linked::Linked;
 use super::walks::Found;
-
-// Why a call on a chain is refused. A refused call changes nothing.
-#[derive(Clone, Copy, PartialEq, Eq, Debug)]
-pub enum ChainFault {
-    // a cell is not in the table
-    Outside,
-}
 
 // Whether the table has a cell of this number.
 fn has<R: Linked>(cells: &[R], cell: u16) -> bool
@@ -54,10 +48,7 @@ pub fn append<R: Linked>(
     ensures records { cells.new ≡ (if is_ok result then appended R.led cells.old last cell else cells.old) }
     ensures chain { (p : List ℕ) → Chain (map R.after cells.old) head p → last ≡ last_or 0 p → Clear cell p → IfOk result (λ h. Chain (map R.after cells.new) h (p ++ cell ∷ [])) }
 {
-    if !has(cells, cell) {
-        return Err(ChainFault::Outside);
-    }
-    if last as usize > cells.len() {
+    if !has(cells, cell) || last as usize > cells.len() {
         return Err(ChainFault::Outside);
     }
     link(cells, cell, 0);
@@ -71,10 +62,7 @@ pub fn unlink<R: Linked>(cells: &mut [R], head: u16, at: Found) -> Result<u16, C
     ensures records { cells.new ≡ (if is_ok result then unlinked R.after R.led cells.old at else cells.old) }
     ensures chain { (front rest : List ℕ) → Chain (map R.after cells.old) head (front ++ at.cell ∷ rest) → at.before ≡ last_or 0 front → MatchResult result (λ h. Chain (map R.after cells.new) h (front ++ rest)) (λ _. ⊥) }
 {
-    if !has(cells, at.cell) {
-        return Err(ChainFault::Outside);
-    }
-    if at.before as usize > cells.len() {
+    if !has(cells, at.cell) || at.before as usize > cells.len() {
         return Err(ChainFault::Outside);
     }
     let next = cells[at.cell as usize - 1].next();
@@ -91,9 +79,9 @@ pub fn thread<R: Linked>(cells: &mut [R], m: u16) -> Result<u16, ChainFault>
     if m as usize > cells.len() {
         return Err(ChainFault::Outside);
     }
-    for i in 0..m {
-        let next = if i + 1 < m { i + 2 } else { 0 };
-        cells[i as usize].lead(next);
+    for (i, cell) in cells[..m as usize].iter_mut().enumerate() {
+        let next = if i + 1 < m as usize { i as u16 + 2 } else { 0 };
+        cell.lead(next);
     }
     if m == 0 { Ok(0) } else { Ok(1) }
 }

@@ -3,11 +3,14 @@
 
 // what a record with a next is
 pub mod linked;
+// why a call is refused
+pub mod fault;
 // walks along a chain
 pub mod walks;
 // calls that build and change chains
 pub mod builds;
 
-pub use builds::{ChainFault, append, push, thread, unlink};
+pub use builds::{append, push, thread, unlink};
+pub use fault::ChainFault;
 pub use linked::Linked;
-pub use walks::{Found, Test, Walked, walk};
+pub use walks::{Found, Test, walk};

@@ -1,11 +1,13 @@
 ghost use Rattle.std.specs.Prelude.{◌≡◌, ℕ, Bool, List, map, length};
 ghost use Rattle.chains.specs.Chain.{Chain};
 ghost use Rattle.chains.specs.Seek.{seek};
-ghost use Rattle.chains.specs.Walk.{walk_of, walked};
+ghost use Rattle.chains.specs.Walk.{walk_of};
 
+use super::fault::ChainFault;
 use super::linked::Linked;
 
-// A question about a record.
+// A question about a record. A closure in its place would have to be required to be callable, and a clause could name only what each call of it
+// gives, not the function that says which records pass.
 pub trait Test<R> {
     ghost passes: { Self → R → Bool };
 
@@ -21,38 +23,34 @@ pub struct Found {
     pub cell: u16,
 }
 
-// What a walk comes to: the first cell whose record passes, the end of the chain, or a chain that leaves the table or does not end.
-#[derive(Clone, Copy)]
-pub enum Walked {
-    At(Found),
-    End,
-    Broken,
-}
-
-// Walks from head on to the first record that passes the test, and looks at no more cells than there are.
-pub fn walk<R: Linked, T: Test<R>>(cells: &[R], head: u16, test: &T) -> Walked
+// Walks from head on, and looks at no more cells than there are. Answers the first cell whose record passes the test, or none where the chain ends
+// before; refused where the chain leaves the table or does not end.
+pub fn walk<R: Linked, T: Test<R>>(
+    cells: &[R],
+    head: u16,
+    test: &T,
+) -> Result<Option<Found>, ChainFault>
     ensures is { result ≡ walk_of (length cells.now) (map R.after cells.now) (map (T.passes test.now) cells.now) 0 head }
-    ensures chain { (p : List ℕ) → Chain (map R.after cells.now) head p → result ≡ walked (seek (map (T.passes test.now) cells.now) 0 p) }
+    ensures chain { (p : List ℕ) → Chain (map R.after cells.now) head p → result ≡ Ok (seek (map (T.passes test.now) cells.now) 0 p) }
 {
     let mut before = 0;
     let mut cell = head;
     for _turn in 0..cells.len() {
         if cell == 0 {
-            return Walked::End;
+            return Ok(None);
         }
-        if cell as usize > cells.len() {
-            return Walked::Broken;
-        }
-        let r = &cells[cell as usize - 1];
+        let Some(r) = cells.get(cell as usize - 1) else {
+            return Err(ChainFault::Broken);
+        };
         if test.test(r) {
-            return Walked::At(Found { before, cell });
+            return Ok(Some(Found { before, cell }));
         }
         before = cell;
         cell = r.next();
     }
     if cell == 0 {
-        Walked::End
+        Ok(None)
     } else {
-        Walked::Broken
+        Err(ChainFault::Broken)
     }
 }

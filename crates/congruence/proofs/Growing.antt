@@ -12,7 +12,7 @@ use Rattle.theory.proofs.Journals.{up, tracks_law}
 use Rattle.theory.proofs.Parts.{parts_grown}
 use Rattle.theory.proofs.Slices.{l_refl}
 use Rattle.keepers.specs.Meaning.{rep, Upto, Settled}
-use Rattle.indexes.specs.Rows.{cells_of}
+use Rattle.rows.specs.Row.{cells_of}
 use Rattle.keepers.specs.Reps.{rep_old, rep_new}
 use Rattle.congruence.specs.declared.journal.Join.{Join}
 use Rattle.congruence.specs.declared.picture.Picture.{Picture as Held}

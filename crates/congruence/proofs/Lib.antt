@@ -1,4 +1,3 @@
-pub mod Rows
 pub mod Options
 pub mod Inwards
 pub mod Moves

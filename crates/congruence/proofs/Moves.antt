@@ -12,10 +12,6 @@ pub record Moves (lost heir n : ℕ) (f g : ℕ → ℕ) : Type 0 where
   pub other : heir ≢ lost
   pub all : (x : ℕ) → Upto n x → g x ≡ moved lost heir (f x)
 
--- the two ways of a union
-pub unites_right : (p q : ℕ) (rs rs' : List ℕ) → rep rs p ≢ rep rs q → rs' ≡ map (moved (rep rs q) (rep rs p)) rs → Moves (rep rs q) (rep rs p) (length rs) (rep rs) (rep rs')
-unites_right p q rs rs' ne e = record { other = ne; all = λ x w. ap (λ (r : List ℕ). rep r x) e ∙ rep_map (moved (rep rs q) (rep rs p)) rs x w }
-
 module _ (lost heir n : ℕ) (f g : ℕ → ℕ) (m : Moves lost heir n f g) where
   hit : (x : ℕ) → Upto n x → f x ≡ lost → g x ≡ heir
   hit x w e = m.all x w ∙ moved_hit lost heir (f x) e

@@ -1,7 +1,7 @@
 -- The index while pictures wait: what withdrawing a picture, a look at one, and a join do. Assumes nothing.
 use Rattle.std.proofs.Common.{◌≡◌, ℕ, zero, suc, ◌+◌, ◌<◌, Bool, true, false, ◌||◌, eqb, ◌≢◌, List, [], ◌∷◌, map, length, get_or, set, Some, None, Option, sym, refl, ap, ◌∙◌, subst, ap₂, inl, inr, ⊎_elim, add-one, arith, get_or-set_other, get_or-set_same}
 use Rattle.std.specs.List.{AllZip}
-use Rattle.std.proofs.lemmas.Bool.{cases_Bool, cases_eq, cond-true, cond-false, both_ways, eq-eqb, ne_eqb}
+use Rattle.std.proofs.lemmas.Bool.{cases_Bool, cases_eq, cond-true, cond-false, both_ways}
 use Rattle.std.proofs.lemmas.List.{get_or-map, map-set, length-map}
 use Rattle.theory.specs.Sheet.{Picture, On, operation, inputs}
 use Rattle.indexes.specs.Meaning.{leading, same_signature}
@@ -32,19 +32,6 @@ or_left true b h = h
 or_right : (a b : Bool) → (a || b) ≡ false → b ≡ false
 or_right false b h = h
 or_right true b h = absurd (both_ways true h refl)
-
-or_second : (a b : Bool) → b ≡ true → (a || b) ≡ true
-or_second true b h = refl
-or_second false b h = h
-
-pub uses_here : (x : ℕ) (xs : List ℕ) (i : ℕ) → i < length xs → get_or xs i 0 ≡ x → uses x xs ≡ true
-uses_here x [] i h e = absurd (omega arith)
-uses_here x (y ∷ ys) zero h e = ap (λ (b : Bool). b || uses x ys) (eq-eqb y x e)
-uses_here x (y ∷ ys) (suc i) h e = or_second (eqb y x) _ (uses_here x ys i (omega arith) e)
-
-pub uses_none : (x : ℕ) (xs : List ℕ) → ((i : ℕ) → i < length xs → get_or xs i 0 ≢ x) → uses x xs ≡ false
-uses_none x [] h = refl
-uses_none x (y ∷ ys) h = ap₂ ◌||◌ (ne_eqb y x (h 0 (omega arith))) (uses_none x ys (λ i l. h (suc i) (omega arith)))
 
 pub free_renamed : (lost heir : ℕ) (w : List ℕ) → uses lost w ≡ false → map (moved lost heir) w ≡ w
 free_renamed lost heir [] h = refl

@@ -1,18 +1,18 @@
 -- One turn of a look at the pictures that wait, and one turn of withdrawing. Assumes nothing.
-use Rattle.std.proofs.Common.{◌≡◌, ℕ, ◌+◌, ◌<◌, ◌≤◌, Bool, true, false, cond, List, [], map, length, get_or, set, is_ok, Some, None, Ok, Err, Option, Result, sym, ap, ◌∙◌, subst, inl, inr, ⊎_elim, add-one, arith}
+use Rattle.std.proofs.Common.{◌≡◌, ℕ, ◌+◌, ◌-◌, ◌<◌, ◌≤◌, Bool, true, false, cond, List, [], map, length, get_or, set, is_ok, Some, None, Ok, Err, Option, Result, sym, ap, ◌∙◌, subst, subst₂, inl, inr, ⊎_elim, add-one, arith}
 use Rattle.std.proofs.Math.Seq.{map-set_same}
 use Rattle.std.proofs.lemmas.Bool.{cases_eq, both_ways}
 use Rattle.std.proofs.lemmas.List.{length-map, get_or-map, set-get_or}
 use Rattle.theory.specs.Sheet.{Picture, blank, picture, On, operation}
-use Rattle.keepers.specs.Meaning.{Within, rep, moved}
-use Rattle.indexes.specs.Rows.{cells_of}
+use Rattle.keepers.specs.Meaning.{Upto, rep, moved}
+use Rattle.rows.specs.Row.{cells_of}
 use Rattle.indexes.specs.Meaning.{Lead, held, apart, leading, refused, enter_fault}
 use Rattle.indexes.specs.declared.index.IndexFault.{IndexFault}
 use Rattle.indexes.specs.Refusing.{taken_new}
 use Rattle.congruence.specs.declared.picture.Picture.{Picture as Held}
 use Rattle.congruence.specs.Drawn.{drawn, sheet}
 use Rattle.congruence.specs.Working.{Ready, Inward}
-use Rattle.congruence.specs.Waiting.{noted, waits, uses, Free, Every, Noted, Posted, Going, TwinsApart, Visited, Looked, Withdrawn}
+use Rattle.congruence.specs.Waiting.{noted, waits, uses, Free, Every, Posted, Going, TwinsApart, Visited, Looked, Withdrawn}
 use Rattle.congruence.proofs.Posts.{at_number, at_set, at_other, free_renamed, posted_shift, posted_index, posted_visited, posted_apart}
 use Rattle.congruence.proofs.Pigeons.{pigeons_but}
 use Rattle.congruence.proofs.Inwards.{deleted_inward}
@@ -125,25 +125,33 @@ module _ (ps : List Held) (rs : List ℕ) (es : List Lead) (i : ℕ) (h new : He
       let s = swept_some ps rs es i h r go l is k.0 m' q k.2 in
       (s.0, subst (λ (qs : List Held). Going (rep rs) qs m') (sym (put_back ps i h new is k.1)) s.1)
 
--- ONE TURN, where ps are the pictures ps₀ of which other things are noted
-module _ (ps₀ ps : List Held) (rs ts : List ℕ) (es : List Lead) (i : ℕ) (h new : Held) (m' : ℕ → List ℕ → Option ℕ)
-    (same : ts ≡ rs) (alike : sheet ps ≡ sheet ps₀) (r : Ready rs (sheet ps₀)) (go : Going (rep rs) ps (held es)) (l : i < length ps₀) (is : h ≡ get_or ps i h) (as-drawn : drawn new ≡ drawn h)
+-- ONE TURN, for picture p, where ps are the pictures ps₀ of which other things are noted
+module _ (ps₀ ps : List Held) (rs ts : List ℕ) (es : List Lead) (p : ℕ) (h new : Held) (m' : ℕ → List ℕ → Option ℕ)
+    (same : ts ≡ rs) (alike : sheet ps ≡ sheet ps₀) (r : Ready rs (sheet ps₀)) (go : Going (rep rs) ps (held es)) (l : Upto (length ps₀) p) (is : h ≡ get_or ps (p - 1) h) (as-drawn : drawn new ≡ drawn h)
     (once : apart es ≡ true) where
   ready-here : Ready rs (sheet ps)
   ready-here = subst (Ready rs) (sym alike) r
 
-  inside : i < length ps
-  inside = omega (arith, l, ap length alike, length-map ps drawn, length-map ps₀ drawn)
+  inside : p - 1 < length ps
+  inside = omega (arith, l.0, l.1, ap length alike, length-map ps drawn, length-map ps₀ drawn)
 
-  looked : (a : Option ℕ) → ((h.waits ≡ true → length es < 1024) → Looked (rep ts) (held es) m' (i + 1) h new a) → Looked (rep rs) (held es) m' (i + 1) h new a
-  looked a look = subst (λ (us : List ℕ). Looked (rep us) (held es) m' (i + 1) h new a) same (look (λ late. room_waiting ps rs es i h ready-here go inside is late once))
+  number : p ≡ p - 1 + 1
+  number = omega (arith, l.0)
 
-  pub turn_none : ((h.waits ≡ true → length es < 1024) → Looked (rep ts) (held es) m' (i + 1) h new None) → ((p : ℕ) → 1 ≤ p → p ≤ i → waits ps p ≡ false) →
-      Going (rep rs) (set ps i new) m' × ((p : ℕ) → 1 ≤ p → p ≤ i + 1 → waits (set ps i new) p ≡ false)
-  turn_none look = looked_none ps rs es i h new m' ready-here go inside is as-drawn (looked None look)
+  looked : (a : Option ℕ) → ((h.waits ≡ true → length es < 1024) → Looked (rep ts) (held es) m' p h new a) → Looked (rep rs) (held es) m' (p - 1 + 1) h new a
+  looked a look =
+      subst₂ (λ (us : List ℕ) (n : ℕ). Looked (rep us) (held es) m' n h new a) same number (look (λ late. room_waiting ps rs es (p - 1) h ready-here go inside is late once))
 
-  pub turn_some : (q : ℕ) → ((h.waits ≡ true → length es < 1024) → Looked (rep ts) (held es) m' (i + 1) h new (Some q)) → TwinsApart (rep rs) (sheet ps) (i + 1) q × Going (rep rs) (set ps i new) m'
-  turn_some q look = looked_some ps rs es i h new m' ready-here go inside is as-drawn q (looked (Some q) look)
+  pub turn_none : ((h.waits ≡ true → length es < 1024) → Looked (rep ts) (held es) m' p h new None) → ((q : ℕ) → 1 ≤ q → q < p → waits ps q ≡ false) →
+      Going (rep rs) (set ps (p - 1) new) m' × ((q : ℕ) → 1 ≤ q → q ≤ p → waits (set ps (p - 1) new) q ≡ false)
+  turn_none look idle =
+      let t = looked_none ps rs es (p - 1) h new m' ready-here go inside is as-drawn (looked None look) (λ q a b. idle q a (omega (arith, b, l.0))) in
+      (t.0, λ q a b. t.1 q a (omega (arith, b, l.0)))
+
+  pub turn_some : (q : ℕ) → ((h.waits ≡ true → length es < 1024) → Looked (rep ts) (held es) m' p h new (Some q)) → TwinsApart (rep rs) (sheet ps) p q × Going (rep rs) (set ps (p - 1) new) m'
+  turn_some q look =
+      let t = looked_some ps rs es (p - 1) h new m' ready-here go inside is as-drawn q (looked (Some q) look) in
+      (subst (λ (n : ℕ). TwinsApart (rep rs) (sheet ps) n q) (sym number) t.0, t.1)
 
 -- WITHDRAWING
 -- the first i pictures are withdrawn

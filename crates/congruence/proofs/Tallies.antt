@@ -1,13 +1,13 @@
 -- Classes and joins, counted: a labelling makes as many classes as there are pictures that represent themselves. Assumes nothing.
-use Rattle.std.proofs.Common.{◌≡◌, ℕ, zero, suc, ◌+◌, ◌-◌, ◌<◌, ◌≤◌, ◌==◌, cond, ◌≢◌, ◌⊎◌, ◌↔◌, List, [], ◌∷◌, ◌++◌, map, length, ltb, sym, refl, ap, ◌∙◌, subst, inl, inr, ⊎_elim, arith}
+use Rattle.std.proofs.Common.{◌≡◌, ℕ, zero, suc, ◌+◌, ◌-◌, ◌<◌, ◌≤◌, ◌==◌, cond, ◌≢◌, ◌⊎◌, List, [], ◌∷◌, ◌++◌, map, length, ltb, sym, refl, ap, ◌∙◌, subst, inl, inr, ⊎_elim, arith}
 use Rattle.std.proofs.lemmas.Bool.{cases_eq, cases_Bool, cond-true, cond-false, eq-eqb, ne_eqb, lt-ltb, ltb-true, ltb-false}
 use Rattle.std.proofs.lemmas.List.{length_push}
 use Rattle.theory.specs.Sheet.{Picture}
 use Rattle.theory.specs.Parts.{Leads, Parts, Joins}
 use Rattle.theory.proofs.Small.{counts_one}
 use Rattle.theory.proofs.Parts.{counts_same, parts_alone, parts_joined}
-use Rattle.keepers.specs.Meaning.{rep, Within, Settled, Unites, moved, ends, class_count}
-use Rattle.keepers.specs.ClassCounts.{classes_few, classes_push}
+use Rattle.keepers.specs.Meaning.{rep, Settled, Unites, moved, ends, class_count}
+use Rattle.keepers.specs.ClassCounts.{classes_push}
 use Rattle.keepers.specs.Drops.{fewer}
 use Rattle.keepers.specs.Reps.{united_length}
 use Rattle.congruence.specs.declared.journal.Join.{Join}
@@ -132,9 +132,6 @@ pub joined_progress : (j : Join) (n : ℕ) (rs rs' : List ℕ) → Settled rs �
 joined_progress j n rs rs' s a u =
     let f = fewer j.left j.right rs rs' s a.left_on a.right_on a.apart u in
     record { counted = united_length j.left j.right rs rs' u; balance = omega arith; longer = omega arith }
-
-pub no_progress : (rs : List ℕ) (n : ℕ) → Progress rs rs n n
-no_progress rs n = record { counted = refl; balance = refl; longer = omega arith }
 
 pub progress_then : (rs rs' rs'' : List ℕ) (j j' j'' : ℕ) → Progress rs rs' j j' → Progress rs' rs'' j' j'' → Progress rs rs'' j j''
 progress_then rs rs' rs'' j j' j'' p q =

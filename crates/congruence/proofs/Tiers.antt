@@ -1,13 +1,13 @@
 -- What stands between two joins is enough to put twins together. Assumes nothing.
-use Rattle.std.proofs.Common.{◌≡◌, ℕ, ◌+◌, ◌<◌, ◌≤◌, true, ◌≢◌, List, [], ◌∷◌, ◌++◌, length, get_or, vec_items, All, Option, sym, ap, ◌∙◌, subst, subst₂, arith}
+use Rattle.std.proofs.Common.{◌≡◌, ℕ, ◌+◌, ◌<◌, ◌≤◌, true, ◌≢◌, List, [], ◌∷◌, ◌++◌, length, vec_items, All, Option, sym, ap, ◌∙◌, subst, subst₂, arith}
 use Rattle.std.proofs.lemmas.List.Elements.{All-weaker, All-nil, All-push, All-cons, All-head, All-tail}
-use Rattle.std.proofs.lemmas.List.{length-map, length_push, map-append}
+use Rattle.std.proofs.lemmas.List.{length-map, length_push}
 use Rattle.theory.specs.Sheet.{Picture, On, Ordered}
 use Rattle.keepers.specs.Meaning.{rep, Upto, Settled, Unites}
 use Rattle.keepers.specs.declared.keeper.Keeper.{Ghosts as Kept}
 use Rattle.indexes.specs.declared.index.Index.{Ghosts as Found}
 use Rattle.indexes.specs.Meaning.{Lead, held}
-use Rattle.indexes.specs.Rows.{cells_of}
+use Rattle.rows.specs.Row.{cells_of}
 use Rattle.congruence.specs.declared.picture.Picture.{Picture as Held}
 use Rattle.congruence.specs.declared.journal.Join.{Join}
 use Rattle.congruence.specs.declared.congruence.Congruence.{Congruence}

@@ -2,7 +2,7 @@
 use Rattle.std.specs.Prelude.{ℕ, List, map}
 use Rattle.theory.specs.Sheet.{Picture}
 use Rattle.theory.specs.Reasons.{Reason, by_entry, by_twins}
-use Rattle.indexes.specs.Rows.{cells_of}
+use Rattle.rows.specs.Row.{cells_of}
 use Rattle.congruence.specs.declared.picture.Picture.{Picture as Held}
 use Rattle.congruence.specs.declared.journal.Join.{Join}
 use Rattle.congruence.specs.declared.journal.Cause.{Cause}

@@ -2,7 +2,7 @@
 -- is the map of the index. Assumes nothing.
 use Rattle.std.specs.Prelude.{◌≡◌, ℕ, Bool, true, false, ◌||◌, ◌≢◌, ◌⊎◌, List, [], ◌∷◌, map, Some, None, Option, ◌==◌, slice_index_or}
 use Rattle.keepers.specs.Meaning.{rep, Within}
-use Rattle.indexes.specs.Rows.{cells_of}
+use Rattle.rows.specs.Row.{cells_of}
 use Rattle.indexes.specs.Meaning.{leading}
 use Rattle.theory.specs.Sheet.{Picture, On, operation, inputs, Twins}
 use Rattle.congruence.specs.declared.picture.Picture.{Picture as Held}

@@ -2,7 +2,7 @@
 -- the journal. Assumes nothing.
 use Rattle.std.specs.Prelude.{◌≡◌, ℕ, ◌+◌, ◌-◌, ◌<◌, ◌≤◌, ◌≢◌, ◌↔◌, List, [], ◌++◌, length, take, Some, All, Option, slice_index_or}
 use Rattle.keepers.specs.Meaning.{Upto, Within, rep, class_count}
-use Rattle.indexes.specs.Rows.{cells_of}
+use Rattle.rows.specs.Row.{cells_of}
 use Rattle.theory.specs.Sheet.{Picture, Entry, On, Ordered, Twins, Closure}
 use Rattle.theory.specs.Reasons.{JoinedBy, Derivation}
 use Rattle.theory.specs.Journal.{Tracks}

@@ -1,6 +1,6 @@
 ghost use Rattle.std.specs.Prelude.{◌≡◌, ℕ, ◌+◌, ◌<◌, ◌≤◌, ◌≢◌, List, map, length, All, ◌==◌};
 ghost use Rattle.keepers.specs.Meaning.{rep, Within, Upto, Unites, class_count};
-ghost use Rattle.indexes.specs.Rows.{cells_of};
+ghost use Rattle.rows.specs.Row.{cells_of};
 ghost use Rattle.congruence.specs.Working.{Lowest};
 
 use crate::journal::Join;
@@ -13,10 +13,7 @@ pub fn root<K: Keeper>(k: &mut K, p: u16) -> u16
     ensures answer { result ≡ rep (K.reps k.old) p }
     ensures same { K.reps k.new ≡ K.reps k.old }
 {
-    match k.find(p) {
-        Ok(r) => r,
-        Err(_) => unreachable(),
-    }
+    k.find(p).unwrap()
 }
 
 // Whether two pictures are in one class.
@@ -34,16 +31,11 @@ pub fn roots<K: Keeper>(k: &mut K, row: &Row) -> Row
     ensures answer { cells_of result ≡ map (rep (K.reps k.old)) (cells_of row.now) }
     ensures same { K.reps k.new ≡ K.reps k.old }
 {
-    let inputs = row.as_slice();
-    let n = inputs.len();
-    let mut cells = [0u16; 4];
-    for i in 0..n {
-        cells[i] = root(k, inputs[i]);
+    let mut roots = Row::none();
+    for x in row.as_slice() {
+        roots.push(root(k, *x));
     }
-    match Row::new(&cells[0..n]) {
-        Some(r) => r,
-        None => unreachable(),
-    }
+    roots
 }
 
 // The lowest number in the class of a picture.
@@ -67,8 +59,8 @@ pub fn classes<K: Keeper>(k: &mut K, n: u16) -> u16
     ensures same { K.reps k.new ≡ K.reps k.old }
 {
     let mut c = 0;
-    for i in 0..n {
-        if root(k, i + 1) == i + 1 {
+    for p in 1..=n {
+        if root(k, p) == p {
             c += 1;
         }
     }
@@ -81,9 +73,7 @@ pub fn unite<K: Keeper>(k: &mut K, join: &Join)
     requires apart { rep (K.reps k.old) join.now.left ≢ rep (K.reps k.old) join.now.right }
     ensures { Unites join.now.left join.now.right (K.reps k.old) (K.reps k.new) }
 {
-    match k.join(join.left, join.right) {
-        Ok(Outcome::Merged) => {}
-        Ok(Outcome::Already) => unreachable(),
-        Err(_) => unreachable(),
-    }
+    let Ok(Outcome::Merged) = k.join(join.left, join.right) else {
+        unreachable!()
+    };
 }

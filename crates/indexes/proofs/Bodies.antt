@@ -1,5 +1,5 @@
 -- What a cell holds does not rest on its next. Assumes nothing.
-use Rattle.std.proofs.Common.{◌≡◌, ℕ, ◌-◌, ◌<◌, cond, List, [], ◌∷◌, map, set, sym, refl, ap, ◌∙◌, inl, inr, arith}
+use Rattle.std.proofs.Common.{◌≡◌, ℕ, ◌-◌, ◌<◌, List, map, set, sym, refl, ap, ◌∙◌, inl, inr, arith}
 use Rattle.std.proofs.lemmas.List.{map-set, set-set}
 use Rattle.std.proofs.lemmas.Bool.{cases_eq, cond-true, cond-false, eq-eqb, ne_eqb}
 use Rattle.chains.specs.Chain.{after_cell}
@@ -7,19 +7,8 @@ use Rattle.chains.specs.Build.{with_next}
 use Rattle.chains.specs.declared.walks.Found.{Found}
 use Rattle.chains.proofs.Relinked.{no_cell, rest_with_next, links_with_next}
 use Rattle.indexes.specs.declared.cell.Cell.{Cell}
-use Rattle.indexes.specs.Records.{lead_of}
-use Rattle.indexes.specs.Buckets.{link_of, led_to, bucket_of, leads_of, left_out, moved_cell}
+use Rattle.indexes.specs.Buckets.{link_of, led_to, lead_in, bucket_of, somes, leads_of, left_out, moved_cell}
 use Rattle.indexes.proofs.Moves.{without_next}
-
-abbrev bare : Cell → Cell
-bare c = led_to c 0
-
-bare_leads : (cs : List Cell) → leads_of (map bare cs) ≡ leads_of cs
-bare_leads [] = refl
-bare_leads (c ∷ cs) = ap (λ r. cond c.used (lead_of c.«record» ∷ r) r) (bare_leads cs)
-
-same_leads : (cs ds : List Cell) → map bare cs ≡ map bare ds → leads_of cs ≡ leads_of ds
-same_leads cs ds e = sym (bare_leads cs) ∙ ap leads_of e ∙ bare_leads ds
 
 module _ (cs : List Cell) (f : Found) where
   abbrev ls : List ℕ
@@ -41,16 +30,15 @@ module _ (cs : List Cell) (f : Found) where
       ∙ set-set _ i _ _
 
   -- what rests on no next is as if only the cell had been written
-  rest_moved : {X : Type 0} (g : Cell → X) → ((c : Cell) (n : ℕ) → g (led_to c n) ≡ g c) → (to : ℕ) (b : Cell) → map g (moved_cell cs f to b) ≡ map g (set cs (f.cell - 1) b)
+  rest_moved : {X : Type 0} (g : Cell → X) → ((c : Cell) (n : ℕ) → g (led_to c n) ≡ g c) → (to : ℕ) (b : Cell) → map g (moved_cell cs f to b) ≡ set (map g cs) (f.cell - 1) (g b)
   rest_moved g same to b =
       let i = f.cell - 1 in
       rest_with_next led_to g same (set (left_out cs f) i b) f.cell to
       ∙ map-set g (left_out cs f) i b
       ∙ ap (λ l. set l i (g b)) (rest_with_next led_to g same cs f.before (after_cell ls f.cell))
-      ∙ sym (map-set g cs i b)
 
   pub buckets_moved : (to : ℕ) (b : Cell) → map bucket_of (moved_cell cs f to b) ≡ set (map bucket_of cs) (f.cell - 1) (bucket_of b)
-  buckets_moved to b = rest_moved bucket_of (λ c n. refl) to b ∙ map-set bucket_of cs (f.cell - 1) b
+  buckets_moved to b = rest_moved bucket_of (λ c n. refl) to b
 
-  pub leads_moved : (to : ℕ) (b : Cell) → leads_of (moved_cell cs f to b) ≡ leads_of (set cs (f.cell - 1) b)
-  leads_moved to b = same_leads (moved_cell cs f to b) (set cs (f.cell - 1) b) (rest_moved bare (λ c n. refl) to b)
+  pub leads_moved : (to : ℕ) (b : Cell) → leads_of (moved_cell cs f to b) ≡ somes (set (map lead_in cs) (f.cell - 1) (lead_in b))
+  leads_moved to b = ap somes (rest_moved lead_in (λ c n. refl) to b)

@@ -1,4 +1,6 @@
 mod Removing
+mod Long
+mod Placing
 mod Moves
 mod Bodies
 mod Shifts

@@ -1,5 +1,6 @@
--- The cells of a chained index: which are used, what they hold, and which bucket's chain has each. Assumes nothing.
-use Rattle.std.specs.Prelude.{◌≡◌, ℕ, ◌-◌, ◌<◌, ◌≤◌, Bool, true, cond, ◌&&◌, List, [], ◌∷◌, ◌++◌, map, length, ◌≢◌, slice_index, slice_index_or, slice_set}
+-- The cells of a chained index: what they hold, and which bucket's chain has each. Assumes nothing.
+use Rattle.std.specs.Prelude.{◌≡◌, ℕ, ◌-◌, ◌<◌, ◌≤◌, Bool, true, false, List, [], ◌∷◌, ◌++◌, map, length, Some, None, Option, ◌≢◌, slice_index, slice_index_or, slice_set}
+use Rattle.std.specs.Option.{option_map}
 use Rattle.chains.specs.Chain.{Chain, Clear, last_or}
 use Rattle.chains.specs.Build.{with_next, unlinked}
 use Rattle.chains.specs.declared.walks.Found.{Found}
@@ -14,20 +15,43 @@ link_of c = c.next
 
 -- the cell with another next
 abbrev pub led_to : Cell → ℕ → Cell
-led_to c n = record { «record» = c.«record»; used = c.used; next = n }
+led_to c n = record { body = c.body; next = n }
 
--- the bucket whose chain has the cell: that of its signature, and 0 for a free cell
+-- a free cell
+abbrev pub spare : Cell
+spare = record { body = None; next = 0 }
+
+-- what the cell holds, nothing where it is free
+abbrev pub lead_in : Cell → Option Lead
+lead_in c = option_map lead_of c.body
+
+-- the bucket for what a cell holds: that of its signature, and 0 for nothing
+abbrev pub bucket_for : Option Lead → ℕ
+bucket_for None = 0
+bucket_for (Some e) = bucket_of_signature e.op e.row
+
+-- the bucket whose chain has the cell
 abbrev pub bucket_of : Cell → ℕ
-bucket_of c = cond c.used (bucket_of_signature (lead_of c.«record»).op (lead_of c.«record»).row) 0
+bucket_of c = bucket_for (lead_in c)
+
+-- what a cell holds has the signature o w
+abbrev pub bears : Option Lead → ℕ → List ℕ → Bool
+bears None o w = false
+bears (Some e) o w = same_signature e.op e.row o w
 
 -- the cell is used, and has the signature o w
 abbrev pub bears_at : Cell → ℕ → List ℕ → Bool
-bears_at c o w = c.used && same_signature (lead_of c.«record»).op (lead_of c.«record»).row o w
+bears_at c o w = bears (lead_in c) o w
+
+-- what is there, in order
+abbrev pub somes : List (Option Lead) → List Lead
+somes [] = []
+somes (None ∷ xs) = somes xs
+somes (Some e ∷ xs) = e ∷ somes xs
 
 -- what the used cells hold, in the order of the cells
 abbrev pub leads_of : List Cell → List Lead
-leads_of [] = []
-leads_of (c ∷ cs) = cond c.used (lead_of c.«record» ∷ leads_of cs) (leads_of cs)
+leads_of cs = somes (map lead_in cs)
 
 -- the chain from head on has just the cells of bucket b
 pub record Bucket (links buckets : List ℕ) (head b : ℕ) (p : List ℕ) : Type 0 where

@@ -1,97 +1,103 @@
--- What the used cells hold, once one cell is written: freed, taken into use, or led to another picture. Assumes nothing.
-use Rattle.std.specs.Prelude.{◌≡◌, ℕ, suc, ◌<◌, true, false, cond, List, [], ◌∷◌, ◌++◌, map, length, get_or, take, drop, set, Some, None, slice_index_or, slice_set, refl}
+-- What is held, once what is at one place is another: nothing, something where nothing was, or another picture. Assumes nothing.
+use Rattle.std.specs.Prelude.{◌≡◌, ℕ, suc, ◌<◌, true, List, [], ◌∷◌, ◌++◌, map, length, get_or, take, drop, set, Some, None, Option, refl}
 use Rattle.std.proofs.Common.{sym, ap, ◌∙◌}
+use Rattle.std.specs.Option.{option_map}
 use Rattle.std.proofs.lemmas.List.{set-get_or, set_split, map-set, get_or-map}
-use Rattle.std.proofs.lemmas.Bool.{and_parts}
-use Rattle.indexes.specs.declared.cell.Cell.{Cell}
+use Rattle.std.proofs.lemmas.Bool.{true≢false}
 use Rattle.indexes.specs.Meaning.{Lead, held, apart, leading, same_signature}
-use Rattle.indexes.specs.Records.{lead_of}
-use Rattle.indexes.specs.Hash.{bucket_of_signature}
-use Rattle.indexes.specs.Buckets.{bucket_of, bears_at, leads_of}
-use Rattle.indexes.specs.Cells.{used_first, free_first}
+use Rattle.indexes.specs.declared.cell.Cell.{Cell}
+use Rattle.indexes.specs.Records.{redirected}
+use Rattle.indexes.specs.Buckets.{link_of, lead_in, bucket_for, bucket_of, bears, somes}
 use Rattle.indexes.specs.Maps.{held_removed, apart_removed, apart_after, apart_before, held_same, swapped, held_inserted, apart_inserted, held_replaced, apart_replaced}
 
-pub leads_append : (xs ys : List Cell) → leads_of (xs ++ ys) ≡ leads_of xs ++ leads_of ys
-leads_append [] ys = refl
-leads_append (c ∷ xs) ys =
-    elim c.used as (λ b. cond b (lead_of c.«record» ∷ leads_of (xs ++ ys)) (leads_of (xs ++ ys)) ≡ cond b (lead_of c.«record» ∷ leads_of xs) (leads_of xs) ++ leads_of ys)
-    [ true ↦ ap (λ r. lead_of c.«record» ∷ r) (leads_append xs ys) | false ↦ leads_append xs ys ]
+pub somes_append : (xs ys : List (Option Lead)) → somes (xs ++ ys) ≡ somes xs ++ somes ys
+somes_append [] ys = refl
+somes_append (None ∷ xs) ys = somes_append xs ys
+somes_append (Some e ∷ xs) ys = ap (λ es. e ∷ es) (somes_append xs ys)
 
-module _ (cs : List Cell) (i : ℕ) (l : i < length cs) where
+-- what has a signature is something
+pub has_is : (x : Option Lead) (o : ℕ) (w : List ℕ) → bears x o w ≡ true → (e : Lead) × (x ≡ Some e) × (same_signature e.op e.row o w ≡ true)
+has_is None o w b = absurd (true≢false (sym b))
+has_is (Some e) o w b = (e, refl, b)
+
+module _ (cs : List (Option Lead)) (i : ℕ) (l : i < length cs) where
   abbrev xs : List Lead
-  xs = leads_of (take i cs)
+  xs = somes (take i cs)
 
   abbrev ys : List Lead
-  ys = leads_of (drop (suc i) cs)
+  ys = somes (drop (suc i) cs)
 
-  set_used : (b : Cell) → b.used ≡ true → leads_of (slice_set cs i b) ≡ xs ++ lead_of b.«record» ∷ ys
-  set_used b u = ap leads_of (set_split cs i b l) ∙ leads_append (take i cs) (b ∷ drop (suc i) cs) ∙ ap (λ r. xs ++ r) (used_first b (drop (suc i) cs) u)
+  split : (x : Option Lead) → somes (set cs i x) ≡ xs ++ somes (x ∷ drop (suc i) cs)
+  split x = ap somes (set_split cs i x l) ∙ somes_append (take i cs) (x ∷ drop (suc i) cs)
 
-  set_free : (b : Cell) → b.used ≡ false → leads_of (slice_set cs i b) ≡ xs ++ ys
-  set_free b u = ap leads_of (set_split cs i b l) ∙ leads_append (take i cs) (b ∷ drop (suc i) cs) ∙ ap (λ r. xs ++ r) (free_first b (drop (suc i) cs) u)
+  was : (x : Option Lead) → get_or cs i None ≡ x → somes cs ≡ xs ++ somes (x ∷ drop (suc i) cs)
+  was x h = ap somes (sym (set-get_or cs i None)) ∙ ap (λ y. somes (set cs i y)) h ∙ split x
 
-  was_used : (d : Cell) → (get_or cs i d).used ≡ true → leads_of cs ≡ xs ++ lead_of (get_or cs i d).«record» ∷ ys
-  was_used d u = ap leads_of (sym (set-get_or cs i d)) ∙ set_used (slice_index_or cs i d) u
-
-  was_free : (d : Cell) → (get_or cs i d).used ≡ false → leads_of cs ≡ xs ++ ys
-  was_free d u = ap leads_of (sym (set-get_or cs i d)) ∙ set_free (slice_index_or cs i d) u
-
-  -- a free cell is taken into use, for a signature that is not held
-  module _ (d b : Cell) (was : (get_or cs i d).used ≡ false) (is : b.used ≡ true) (absent : held (leads_of cs) (lead_of b.«record»).op (lead_of b.«record»).row ≡ None) where
-    abbrev n : Lead
-    n = lead_of b.«record»
-
+  -- a signature that is not held comes to a place that holds nothing
+  module _ (n : Lead) (free : get_or cs i None ≡ None) (absent : held (somes cs) n.op n.row ≡ None) where
     none : held (xs ++ ys) n.op n.row ≡ None
-    none = ap (λ r. held r n.op n.row) (sym (was_free d was)) ∙ absent
+    none = ap (λ r. held r n.op n.row) (sym (was None free)) ∙ absent
 
-    pub used-apart : apart (leads_of cs) ≡ true → apart (leads_of (slice_set cs i b)) ≡ true
-    used-apart once = ap apart (set_used b is) ∙ apart_inserted xs ys n none (ap apart (sym (was_free d was)) ∙ once)
+    pub used-apart : apart (somes cs) ≡ true → apart (somes (set cs i (Some n))) ≡ true
+    used-apart once = ap apart (split (Some n)) ∙ apart_inserted xs ys n none (ap apart (sym (was None free)) ∙ once)
 
-    pub used-held : (q : ℕ) (v : List ℕ) → held (leads_of (slice_set cs i b)) q v ≡ leading (held (leads_of cs)) n.op n.row (Some n.picture) q v
-    used-held q v = ap (λ r. held r q v) (set_used b is) ∙ held_inserted xs ys n none q v ∙ ap (λ r. leading (held r) n.op n.row (Some n.picture) q v) (sym (was_free d was))
+    pub used-held : (q : ℕ) (v : List ℕ) → held (somes (set cs i (Some n))) q v ≡ leading (held (somes cs)) n.op n.row (Some n.picture) q v
+    used-held q v = ap (λ r. held r q v) (split (Some n)) ∙ held_inserted xs ys n none q v ∙ ap (λ r. leading (held r) n.op n.row (Some n.picture) q v) (sym (was None free))
 
-  -- the cell that has the signature o w is written
-  module _ (o : ℕ) (w : List ℕ) (d : Cell) (has : bears_at (slice_index_or cs i d) o w ≡ true) (once : apart (leads_of cs) ≡ true) where
+  -- what the place holds has the signature o w
+  module _ (o : ℕ) (w : List ℕ) (has : bears (get_or cs i None) o w ≡ true) (once : apart (somes cs) ≡ true) where
     abbrev e : Lead
-    e = lead_of (get_or cs i d).«record»
+    e = (has_is (get_or cs i None) o w has).0
 
-    parts : ((get_or cs i d).used ≡ true) × (same_signature e.op e.row o w ≡ true)
-    parts = and_parts (get_or cs i d).used (same_signature e.op e.row o w) has
+    here : get_or cs i None ≡ Some e
+    here = (has_is (get_or cs i None) o w has).1
 
-    old : leads_of cs ≡ xs ++ e ∷ ys
-    old = was_used d parts.0
+    same : same_signature e.op e.row o w ≡ true
+    same = (has_is (get_or cs i None) o w has).2
 
     apart-old : apart (xs ++ e ∷ ys) ≡ true
-    apart-old = ap apart (sym old) ∙ once
+    apart-old = ap apart (sym (was (Some e) here)) ∙ once
 
     turn : (es : List Lead) → held es e.op e.row ≡ None → held es o w ≡ None
-    turn es h = sym (held_same es o e.op w e.row (swapped e.op o e.row w parts.1)) ∙ h
+    turn es h = sym (held_same es o e.op w e.row (swapped e.op o e.row w same)) ∙ h
 
     -- it is freed
-    pub freed-apart : (b : Cell) → b.used ≡ false → apart (leads_of (slice_set cs i b)) ≡ true
-    freed-apart b free = ap apart (set_free b free) ∙ apart_removed xs e ys apart-old
+    pub freed-apart : apart (somes (set cs i None)) ≡ true
+    freed-apart = ap apart (split None) ∙ apart_removed xs e ys apart-old
 
-    pub freed-held : (b : Cell) → b.used ≡ false → (q : ℕ) (v : List ℕ) → held (leads_of (slice_set cs i b)) q v ≡ leading (held (leads_of cs)) o w None q v
-    freed-held b free q v = ap (λ r. held r q v) (set_free b free)
-        ∙ held_removed xs ys e o w (turn xs (apart_before xs e ys apart-old)) parts.1 (turn ys (apart_after xs e ys apart-old)) q v
-        ∙ ap (λ r. leading (held r) o w None q v) (sym old)
+    pub freed-held : (q : ℕ) (v : List ℕ) → held (somes (set cs i None)) q v ≡ leading (held (somes cs)) o w None q v
+    freed-held q v = ap (λ r. held r q v) (split None)
+        ∙ held_removed xs ys e o w (turn xs (apart_before xs e ys apart-old)) same (turn ys (apart_after xs e ys apart-old)) q v
+        ∙ ap (λ r. leading (held r) o w None q v) (sym (was (Some e) here))
 
     -- its signature leads to another picture
-    module _ (b : Cell) (is : b.used ≡ (get_or cs i d).used) (op : (lead_of b.«record»).op ≡ e.op) (row : (lead_of b.«record»).row ≡ e.row) where
-      pub led-apart : apart (leads_of (slice_set cs i b)) ≡ true
-      led-apart = ap apart (set_used b (is ∙ parts.0)) ∙ apart_replaced xs e (lead_of b.«record») ys op row apart-old
+    module _ (p : ℕ) where
+      led : somes (set cs i (option_map (redirected p) (get_or cs i None))) ≡ xs ++ redirected p e ∷ ys
+      led = ap (λ x. somes (set cs i (option_map (redirected p) x))) here ∙ split (Some (redirected p e))
 
-      pub led-held : (q : ℕ) (v : List ℕ) → held (leads_of (slice_set cs i b)) q v ≡ leading (held (leads_of cs)) o w (Some (lead_of b.«record»).picture) q v
-      led-held q v = ap (λ r. held r q v) (set_used b (is ∙ parts.0))
-          ∙ held_replaced xs ys e o w (turn xs (apart_before xs e ys apart-old)) parts.1 (lead_of b.«record») op row q v
-          ∙ ap (λ r. leading (held r) o w (Some (lead_of b.«record»).picture) q v) (sym old)
+      pub led-apart : apart (somes (set cs i (option_map (redirected p) (get_or cs i None)))) ≡ true
+      led-apart = ap apart led ∙ apart_replaced xs e (redirected p e) ys refl refl apart-old
 
--- ---- what is the same of a cell that is written is the same of all
-pub map_same : {X : Type 0} (g : Cell → X) (cs : List Cell) (i : ℕ) (d b : Cell) → i < length cs → g b ≡ g (slice_index_or cs i d) → map g (slice_set cs i b) ≡ map g cs
+      pub led-held : (q : ℕ) (v : List ℕ) → held (somes (set cs i (option_map (redirected p) (get_or cs i None)))) q v ≡ leading (held (somes cs)) o w (Some p) q v
+      led-held q v = ap (λ r. held r q v) led
+          ∙ held_replaced xs ys e o w (turn xs (apart_before xs e ys apart-old)) same (redirected p e) refl refl q v
+          ∙ ap (λ r. leading (held r) o w (Some p) q v) (sym (was (Some e) here))
+
+-- ---- a cell whose signature leads to another picture
+-- what is the same of a cell that is written is the same of all
+map_same : {X : Type 0} (g : Cell → X) (cs : List Cell) (i : ℕ) (d b : Cell) → i < length cs → g b ≡ g (get_or cs i d) → map g (set cs i b) ≡ map g cs
 map_same g cs i d b l e = map-set g cs i b ∙ ap (set (map g cs) i) (e ∙ sym (get_or-map g cs i d (g d) l)) ∙ set-get_or (map g cs) i (g d)
 
-pub bucket_same : (b c : Cell) → b.used ≡ c.used → (lead_of b.«record»).op ≡ (lead_of c.«record»).op → (lead_of b.«record»).row ≡ (lead_of c.«record»).row → bucket_of b ≡ bucket_of c
-bucket_same b c is op row =
-    ap (λ u. cond u (bucket_of_signature (lead_of b.«record»).op (lead_of b.«record»).row) 0) is
-    ∙ ap (λ o. cond c.used (bucket_of_signature o (lead_of b.«record»).row) 0) op
-    ∙ ap (λ w. cond c.used (bucket_of_signature (lead_of c.«record»).op w) 0) row
+same_bucket : (p : ℕ) (x : Option Lead) → bucket_for (option_map (redirected p) x) ≡ bucket_for x
+same_bucket p None = refl
+same_bucket p (Some e) = refl
+
+module _ (cs : List Cell) (i p : ℕ) (r n : Cell) (l : i < length cs) (is : r ≡ get_or cs i r) (next : n.next ≡ r.next) (lead : lead_in n ≡ option_map (redirected p) (lead_in r)) where
+  pub redirected_leads : map lead_in (set cs i n) ≡ set (map lead_in cs) i (option_map (redirected p) (get_or (map lead_in cs) i None))
+  redirected_leads = map-set lead_in cs i n ∙ ap (set (map lead_in cs) i) (lead ∙ ap (λ c. option_map (redirected p) (lead_in c)) is ∙ ap (option_map (redirected p)) (sym (get_or-map lead_in cs i r None l)))
+
+  pub redirected_buckets : map bucket_of (set cs i n) ≡ map bucket_of cs
+  redirected_buckets = map_same bucket_of cs i r n l (ap bucket_for lead ∙ same_bucket p (lead_in r) ∙ ap bucket_of is)
+
+  pub redirected_links : map link_of (set cs i n) ≡ map link_of cs
+  redirected_links = map_same link_of cs i r n l (next ∙ ap link_of is)

@@ -1,5 +1,4 @@
 pub mod Meaning
-pub mod Rows
 pub mod Records
 pub mod Hash
 pub mod Buckets

@@ -1,12 +1,16 @@
 -- Records as an index stores them. Assumes nothing.
 use Rattle.std.specs.Prelude.{◌≡◌, ℕ, ◌<◌, true, List, length, take, None, slice_index_or}
+use Rattle.rows.specs.Row.{cells_of}
 use Rattle.indexes.specs.declared.record.Record.{Record}
 use Rattle.indexes.specs.Meaning.{Lead, held, same_signature}
-use Rattle.indexes.specs.Rows.{cells_of}
 
 -- the signature and the picture that a record stores
 abbrev pub lead_of : Record → Lead
-lead_of r = record { op = r.op; row = cells_of r.row; picture = r.picture }
+lead_of r = record { op = r.signature.op; row = cells_of r.signature.row; picture = r.picture }
+
+-- the signature, leading to another picture
+abbrev pub redirected : ℕ → Lead → Lead
+redirected p e = record { op = e.op; row = e.row; picture = p }
 
 -- the first of the leads with the signature o w stands at i
 pub record Stands (es : List Lead) (o : ℕ) (w : List ℕ) (i : ℕ) : Type 0 where

@@ -5,15 +5,13 @@
 pub mod index;
 // what follows from the promises of any index
 pub mod meeting;
-// at most four picture numbers
-pub mod row;
+// a signature, as an index stores it
+pub mod signature;
 // a signature and its picture, as an index stores them
 pub mod record;
 // the index that is a plain list of records
 pub mod plain;
-// the bucket of a signature
-mod hash;
-// a record in a chain
+// a place for a record in a chain
 mod cell;
 // the index whose records are chained by bucket
 pub mod chained;
@@ -22,4 +20,6 @@ pub use chained::Chained;
 pub use index::{Index, IndexFault, LIMIT};
 pub use meeting::find_or_enter;
 pub use plain::Plain;
-pub use row::Row;
+
+// At most four picture numbers, in order: the inputs of a picture, or their representatives.
+pub type Row = rows::Row<4>;

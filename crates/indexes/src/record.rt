@@ -1,11 +1,42 @@
-use super::row::Row;
+ghost use Rattle.std.specs.Prelude.{◌≡◌};
+ghost use Rattle.rows.specs.Row.{cells_of};
+ghost use Rattle.indexes.specs.Meaning.{same_signature};
+ghost use Rattle.indexes.specs.Records.{lead_of, redirected};
+
+use super::signature::Signature;
 
 // A signature, and the picture to which it leads.
 #[derive(Clone, Copy)]
 pub struct Record {
-    op: u16,
-    row: Row,
+    signature: Signature,
     picture: u16,
 }
 
-pub mod calls;
+impl Record {
+    pub fn new(signature: Signature, picture: u16) -> Record
+        ensures { lead_of result ≡ record { op = signature.op; row = cells_of signature.row; picture = picture } }
+    {
+        Record { signature, picture }
+    }
+
+    // Whether the record has this signature.
+    pub fn bears(&self, s: &Signature) -> bool
+        ensures { result ≡ same_signature (lead_of self.now).op (lead_of self.now).row s.now.op (cells_of s.now.row) }
+    {
+        self.signature.op == s.op && self.signature.row.as_slice() == s.row.as_slice()
+    }
+
+    // Makes its signature lead to another picture.
+    pub fn lead_to(&mut self, picture: u16)
+        ensures { lead_of self.new ≡ redirected picture (lead_of self.old) }
+    {
+        self.picture = picture;
+    }
+
+    // The picture to which its signature leads.
+    pub fn picture(&self) -> u16
+        ensures { result ≡ (lead_of self.now).picture }
+    {
+        self.picture
+    }
+}

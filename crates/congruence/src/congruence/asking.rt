@@ -1,7 +1,7 @@
 ghost use Rattle.std.specs.Prelude.{◌≡◌, ℕ, map, All, ◌==◌};
 ghost use Rattle.keepers.specs.Meaning.{rep, Within};
 ghost use Rattle.indexes.specs.Meaning.{held};
-ghost use Rattle.indexes.specs.Rows.{cells_of};
+ghost use Rattle.rows.specs.Row.{cells_of};
 ghost use Rattle.congruence.specs.Working.{Lowest};
 ghost use Rattle.congruence.specs.Whole.{Alike};
 

@@ -1,6 +1,6 @@
 ghost use Rattle.std.specs.Prelude.{◌≡◌, ℕ, ◌<◌, ◌≤◌, [], length, IfOk, All, vec_len, vec_capacity};
 ghost use Rattle.keepers.specs.Meaning.{Upto};
-ghost use Rattle.indexes.specs.Rows.{cells_of};
+ghost use Rattle.rows.specs.Row.{cells_of};
 ghost use Rattle.congruence.specs.Drawn.{sheet};
 ghost use Rattle.congruence.specs.Working.{Grows, Any};
 ghost use Rattle.congruence.specs.Waiting.{Idle};
@@ -15,12 +15,10 @@ use std::alloc::{AllocError, Global};
 
 impl<K: Keeper + Drop, I: Index + Drop> Congruence<K, I> {
     // No picture yet, with this keeper and this index, both reset first. All memory is taken here.
-    pub fn new(heap: Global, keeper: K, index: I) -> Result<Congruence<K, I>, AllocError>
+    pub fn new(heap: Global, mut keeper: K, mut index: I) -> Result<Congruence<K, I>, AllocError>
         ensures works { IfOk result (λ c. Works K.Keeper I.Index c) }
         ensures empty { IfOk result (λ c. (c.pictures.items ≡ []) × (c.journal.items ≡ [])) }
     {
-        let mut keeper = keeper;
-        let mut index = index;
         keeper.reset();
         index.reset();
         let pictures = Vec::with_capacity(heap, 1024)?;

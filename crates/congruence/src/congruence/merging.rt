@@ -1,7 +1,6 @@
 ghost use Rattle.std.specs.Prelude.{◌≡◌, ℕ, ◌<◌, ◌≤◌, List, [], ◌∷◌, ◌++◌, map, vec_len, vec_capacity};
 ghost use Rattle.keepers.specs.Meaning.{rep, Unites, moved};
 ghost use Rattle.indexes.specs.Meaning.{held};
-ghost use Rattle.indexes.specs.Rows.{cells_of};
 ghost use Rattle.theory.specs.Sheet.{On};
 ghost use Rattle.congruence.specs.Drawn.{sheet};
 ghost use Rattle.congruence.specs.Working.{Apart, Inward};
@@ -12,31 +11,9 @@ use crate::congruence::Congruence;
 use crate::journal::Join;
 use crate::picture::Picture;
 use crate::rooting::{root, unite};
-use indexes::{Index, Row};
+use indexes::Index;
 use keepers::Keeper;
-
-// One number in place of another.
-fn heir_of(x: u16, lost: u16, heir: u16) -> u16
-    ensures { result ≡ moved lost heir x }
-{
-    if x == lost { heir } else { x }
-}
-
-// A row with one number in place of another.
-fn rename(row: &Row, lost: u16, heir: u16) -> Row
-    ensures { cells_of result ≡ map (moved lost heir) (cells_of row.now) }
-{
-    let old = row.as_slice();
-    let n = old.len();
-    let mut cells = [0u16; 4];
-    for i in 0..n {
-        cells[i] = heir_of(old[i], lost, heir);
-    }
-    match Row::new(&cells[0..n]) {
-        Some(r) => r,
-        None => unreachable(),
-    }
-}
+use keepers::relabel::relabel_row;
 
 // Takes a picture out of the index, notes its new row, and lets it wait, if its row has the lost representative.
 fn withdraw<I: Index>(index: &mut I, picture: &mut Picture, lost: u16, heir: u16)
@@ -44,7 +21,7 @@ fn withdraw<I: Index>(index: &mut I, picture: &mut Picture, lost: u16, heir: u16
 {
     if picture.row.as_slice().contains(&lost) {
         index.delete(picture.op, picture.row.as_slice());
-        picture.row = rename(&picture.row, lost, heir);
+        picture.row.change(|cells| relabel_row(cells, lost, heir));
         picture.waits = true;
     }
 }
@@ -56,7 +33,7 @@ fn withdraw_all<I: Index>(index: &mut I, pictures: &mut [Picture], lost: u16, he
     ensures rows { (p : ℕ) → On (sheet pictures.old) p → noted pictures.new p ≡ map (moved lost heir) (noted pictures.old p) }
     ensures posted { (f : ℕ → ℕ) → Posted f (sheet pictures.old) (noted pictures.old) (held (I.leads index.old)) (waits pictures.old) (Free lost) → Posted f (sheet pictures.old) (noted pictures.new) (held (I.leads index.new)) (waits pictures.new) (Free lost) }
 {
-    for picture in pictures.iter_mut() {
+    for picture in pictures {
         withdraw(index, picture, lost, heir);
     }
 }

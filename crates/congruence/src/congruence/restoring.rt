@@ -1,5 +1,4 @@
 ghost use Rattle.std.specs.Prelude.{◌≡◌, ℕ, ◌≤◌, true, length, take, vec_len, vec_capacity, All};
-ghost use Rattle.std.specs.List.{range_with_len};
 ghost use Rattle.keepers.specs.Meaning.{rep};
 ghost use Rattle.theory.specs.Sheet.{On, Ordered};
 ghost use Rattle.congruence.specs.Drawn.{sheet};
@@ -12,21 +11,7 @@ use crate::journal::Join;
 use crate::picture::Picture;
 use crate::rooting::{roots, unite};
 use indexes::Index;
-use keepers::Keeper;
-
-// Makes the keeper count n pictures, each alone.
-fn populate<K: Keeper>(k: &mut K, n: u16)
-    requires { n ≤ K.limit }
-    ensures { K.reps k.new ≡ range_with_len 1 n }
-{
-    k.reset();
-    for _i in 0..n {
-        match k.grow() {
-            Ok(_) => {}
-            Err(_) => unreachable(),
-        }
-    }
-}
+use keepers::{Keeper, populate};
 
 // Makes the joins of a journal again, from pictures that are each alone.
 fn replay<K: Keeper>(k: &mut K, pictures: &[Picture], journal: &[Join])
@@ -37,7 +22,7 @@ fn replay<K: Keeper>(k: &mut K, pictures: &[Picture], journal: &[Join])
     ensures counted { Counted (K.reps k.new) pictures.now }
     ensures books { Books (K.reps k.new) (sheet pictures.now) journal.now }
 {
-    populate(k, pictures.len() as u16);
+    populate(k, pictures.len()).unwrap();
     for join in journal {
         unite(k, join);
     }
@@ -51,7 +36,7 @@ fn renote<K: Keeper>(k: &mut K, pictures: &mut [Picture])
     ensures rows { (p : ℕ) → On (sheet pictures.old) p → noted pictures.new p ≡ row (rep (K.reps k.old)) (sheet pictures.old) p }
     ensures waits { (p : ℕ) → On (sheet pictures.old) p → waits pictures.new p ≡ true }
 {
-    for picture in pictures.iter_mut() {
+    for picture in pictures {
         picture.row = roots(k, &picture.inputs);
         picture.waits = true;
     }

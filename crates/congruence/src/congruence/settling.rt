@@ -1,7 +1,7 @@
 ghost use Rattle.std.specs.Prelude.{◌≡◌, ℕ, ◌<◌, ◌≤◌, true, List, length, Some, IfSome, vec_len, vec_capacity};
 ghost use Rattle.keepers.specs.Meaning.{rep, Within, Upto};
 ghost use Rattle.indexes.specs.Meaning.{held};
-ghost use Rattle.indexes.specs.Rows.{cells_of};
+ghost use Rattle.rows.specs.Row.{cells_of};
 ghost use Rattle.theory.specs.Reasons.{Fits};
 ghost use Rattle.congruence.specs.Drawn.{drawn, sheet, reason_of, reasons};
 ghost use Rattle.congruence.specs.Working.{Apart, Inward, Progress, Grows, Any};
@@ -70,9 +70,13 @@ impl<K: Keeper, I: Index> Congruence<K, I> {
         ensures working { Works K.Keeper I.Index self.old → Works K.Keeper I.Index self.new }
         ensures swept { Works K.Keeper I.Index self.old → Swept (rep (K.reps self.old.keeper)) self.new.pictures.items result }
     {
-        for i in 0..self.pictures.len() {
-            let p = i as u16 + 1;
-            if let Some(q) = look(&mut self.keeper, &mut self.index, &mut self.pictures[i], p) {
+        for p in 1..=self.pictures.len() as u16 {
+            if let Some(q) = look(
+                &mut self.keeper,
+                &mut self.index,
+                &mut self.pictures[p as usize - 1],
+                p,
+            ) {
                 return Some(Join {
                     left: p,
                     right: q,

@@ -1,15 +1,15 @@
 ghost use Rattle.indexes.specs.Buckets.{leads_of};
-ghost use Rattle.std.proofs.Common.{arith, rules};
+ghost use Rattle.std.proofs.Common.{arith};
 ghost use Rattle.indexes.specs.Spares.{leads_few};
 
 use super::super::index::{Index, IndexFault};
-use super::super::row::Row;
+use super::super::signature::Signature;
 use super::Chained;
 
 impl Index for Chained {
     ghost leads = { λ s. leads_of s.cells.items };
 
-    ghost once = { first_of (Prim.search rules, Prim.grind (arith, Self.row.coded.inj)) };
+    ghost once = { λ s. s.once };
 
     ghost few = { λ s. omega (arith, leads_few s.cells.items, s.table) };
 
@@ -19,34 +19,28 @@ impl Index for Chained {
     }
 
     fn enter(&mut self, op: u16, row: &[u16], picture: u16) -> Result<(), IndexFault> {
-        let Some(inputs) = Row::new(row) else {
-            return Err(IndexFault::Inputs);
-        };
-        match self.place(op, row) {
-            Some(f) => {
-                self.relead(op, row, f, picture);
-                Ok(())
-            }
+        let s = Signature::new(op, row).ok_or(IndexFault::Inputs)?;
+        match self.place(&s) {
+            Some(f) => self.relead(&s, f, picture),
             None => {
-                if !self.spare() {
-                    return Err(IndexFault::Full);
-                }
-                self.admit(op, row, inputs, picture);
-                Ok(())
+                self.spare()?;
+                self.admit(&s, picture);
             }
         }
+        Ok(())
     }
 
     fn query(&self, op: u16, row: &[u16]) -> Option<u16> {
-        match self.place(op, row) {
-            Some(f) => Some(self.cells[f.cell as usize - 1].picture()),
-            None => None,
-        }
+        let f = self.place(&Signature::new(op, row)?)?;
+        self.cells[f.cell as usize - 1].picture()
     }
 
     fn delete(&mut self, op: u16, row: &[u16]) {
-        if let Some(f) = self.place(op, row) {
-            self.free(op, row, f);
+        let Some(s) = Signature::new(op, row) else {
+            return;
+        };
+        if let Some(f) = self.place(&s) {
+            self.free(&s, f);
         }
     }
 }

@@ -1,13 +1,12 @@
 ghost use Rattle.std.specs.Prelude.{◌≡◌, [], IfOk, None, MatchOption};
+ghost use Rattle.rows.specs.Row.{cells_of};
 ghost use Rattle.indexes.specs.Meaning.{held};
 ghost use Rattle.indexes.specs.Buckets.{leads_of, Located};
 
-use super::super::cell::Cell;
-use super::super::cell::calls::Bears;
-use super::super::hash::bucket;
 use super::super::index::LIMIT;
+use super::super::signature::Signature;
 use super::Chained;
-use chains::{Found, Walked, walk};
+use chains::{Found, walk};
 use std::alloc::{AllocError, Global};
 
 impl Chained {
@@ -21,13 +20,10 @@ impl Chained {
     }
 
     // The cell with a signature, and the one before it in its chain.
-    pub(super) fn place(&self, op: u16, row: &[u16]) -> Option<Found>
-        ensures { MatchOption result (held (leads_of self.now.cells.items) op row.now ≡ None) (λ f. Located self.now.cells.items self.now.heads.items op row.now f) }
+    pub(super) fn place(&self, s: &Signature) -> Option<Found>
+        ensures { MatchOption result (held (leads_of self.now.cells.items) s.now.op (cells_of s.now.row) ≡ None) (λ f. Located self.now.cells.items self.now.heads.items s.now.op (cells_of s.now.row) f) }
     {
-        let head = self.heads[bucket(op, row)];
-        match walk(self.cells.as_slice(), head, &Bears { op, row }) {
-            Walked::At(f) => Some(f),
-            Walked::End | Walked::Broken => None,
-        }
+        let head = self.heads[s.bucket()];
+        walk(self.cells.as_slice(), head, s).unwrap_or(None)
     }
 }

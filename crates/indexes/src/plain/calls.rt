@@ -1,4 +1,5 @@
-ghost use Rattle.std.specs.Prelude.{◌≡◌, [], map, IfOk, Some, None, vec_len, MatchOption, nat_le};
+ghost use Rattle.std.specs.Prelude.{◌≡◌, [], map, IfOk, None, MatchOption};
+ghost use Rattle.rows.specs.Row.{cells_of};
 ghost use Rattle.indexes.specs.Meaning.{held};
 ghost use Rattle.indexes.specs.Records.{lead_of, Stands};
 ghost use Rattle.std.proofs.Common.{arith, rules};
@@ -6,7 +7,7 @@ ghost use Rattle.std.proofs.lemmas.List.{length-map};
 
 use super::super::index::{Index, IndexFault, LIMIT};
 use super::super::record::Record;
-use super::super::row::Row;
+use super::super::signature::Signature;
 use super::Plain;
 use std::alloc::{AllocError, Global};
 
@@ -19,30 +20,18 @@ impl Plain {
         Ok(Plain { records })
     }
 
-    // Whether no signature more can be held.
-    fn full(&self) -> bool
-        ensures { result ≡ nat_le 1024 (vec_len self.now.records) }
-    {
-        self.records.len() >= LIMIT
-    }
-
     // Where the record with a signature stands.
-    fn place(&self, op: u16, row: &[u16]) -> Option<usize>
-        ensures { MatchOption result (held (map lead_of self.now.records.items) op row.now ≡ None) (λ i. Stands (map lead_of self.now.records.items) op row.now i) }
+    fn place(&self, s: &Signature) -> Option<usize>
+        ensures { MatchOption result (held (map lead_of self.now.records.items) s.now.op (cells_of s.now.row) ≡ None) (λ i. Stands (map lead_of self.now.records.items) s.now.op (cells_of s.now.row) i) }
     {
-        for (i, r) in self.records.iter().enumerate() {
-            if r.bears(op, row) {
-                return Some(i);
-            }
-        }
-        None
+        self.records.iter().position(|r| r.bears(s))
     }
 }
 
 impl Index for Plain {
     ghost leads = { λ s. map lead_of s.records.items };
 
-    ghost once = { first_of (Prim.search rules, Prim.grind (arith, Self.row.coded.inj)) };
+    ghost once = { λ s. s.once };
 
     ghost few = { λ s. simp length-map (omega arith) };
 
@@ -51,34 +40,30 @@ impl Index for Plain {
     }
 
     fn enter(&mut self, op: u16, row: &[u16], picture: u16) -> Result<(), IndexFault> {
-        let Some(inputs) = Row::new(row) else {
-            return Err(IndexFault::Inputs);
-        };
-        match self.place(op, row) {
-            Some(i) => {
-                self.records[i].lead_to(picture);
-                Ok(())
-            }
+        let s = Signature::new(op, row).ok_or(IndexFault::Inputs)?;
+        match self.place(&s) {
+            Some(i) => self.records[i].lead_to(picture),
             None => {
-                if self.full() {
+                if self.records.len() >= LIMIT {
                     return Err(IndexFault::Full);
                 }
-                self.records.push_reserved(Record::new(op, inputs, picture));
-                Ok(())
+                self.records.push_reserved(Record::new(s, picture));
             }
         }
+        Ok(())
     }
 
     fn query(&self, op: u16, row: &[u16]) -> Option<u16> {
-        match self.place(op, row) {
-            Some(i) => Some(self.records[i].picture()),
-            None => None,
-        }
+        let i = self.place(&Signature::new(op, row)?)?;
+        Some(self.records[i].picture())
     }
 
     fn delete(&mut self, op: u16, row: &[u16]) {
-        if let Some(i) = self.place(op, row) {
-            let _ = self.records.remove(i);
+        let Some(s) = Signature::new(op, row) else {
+            return;
+        };
+        if let Some(i) = self.place(&s) {
+            self.records.remove(i);
         }
     }
 }

@@ -1,4 +1,4 @@
-use Rattle.std.proofs.Common.{◌≡◌, ℕ, length, vec_items, sym, ap, ◌∙◌, subst}
+use Rattle.std.proofs.Common.{length, vec_items, sym, ap, ◌∙◌, subst}
 use Rattle.std.proofs.lemmas.List.{with_items_is}
 use Rattle.theory.specs.Sheet.{Ordered}
 use Rattle.congruence.specs.Drawn.{sheet}

@@ -1,4 +1,4 @@
-use Rattle.std.proofs.Common.{◌≡◌, ℕ, List, [], ◌∷◌, ◌++◌, length, vec_items, vec_capacity, sym, ap, ◌∙◌, subst, subst₂, arith}
+use Rattle.std.proofs.Common.{ℕ, List, [], ◌∷◌, ◌++◌, length, vec_items, vec_capacity, sym, ap, ◌∙◌, subst, subst₂, arith}
 use Rattle.theory.specs.Sheet.{Picture}
 use Rattle.keepers.specs.Meaning.{rep, Unites}
 use Rattle.indexes.specs.Meaning.{held}

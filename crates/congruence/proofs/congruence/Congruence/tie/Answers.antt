@@ -1,11 +1,10 @@
-use Rattle.std.proofs.Common.{◌≡◌, ℕ, List, length, vec_items, sym, ap, ◌∙◌, subst, arith}
+use Rattle.std.proofs.Common.{ℕ, List, length, vec_items, sym, ◌∙◌, subst, arith}
 use Rattle.std.proofs.lemmas.Bool.{eqb-false}
 use Rattle.theory.specs.Sheet.{Picture, Entry}
 use Rattle.theory.specs.Reasons.{Fits}
-use Rattle.keepers.specs.Meaning.{rep}
 use Rattle.indexes.specs.Meaning.{held}
 use Rattle.congruence.specs.Drawn.{sheet, reasons, reason_of}
-use Rattle.congruence.specs.Working.{Apart, Books, Inward, Grows, Any}
+use Rattle.congruence.specs.Working.{Books, Inward, Grows, Any}
 use Rattle.congruence.specs.Waiting.{Working}
 use Rattle.congruence.proofs.Journals.{grows_none, grows_join, grows_then, grows_coarser}
 use Rattle.congruence.proofs.Tallies.{apart_room, progress_then}

@@ -5,4 +5,4 @@ use Rattle.congruence.proofs.congruence.merging.withdraw_all.Given as goal
 abbrev pub invariant-loop-picture : goal.invariant-loop-picture
 invariant-loop-picture g l =
     let found = g.I.Index in
-    Walked l.lost l.heir l.picture-index l.initial.pictures (held (found.leads l.initial.index)) l.pictures (held (found.leads l.index))
+    Walked l.lost l.heir l.picture-index l.initial.picture-items (held (found.leads l.initial.index)) l.picture-items (held (found.leads l.index))

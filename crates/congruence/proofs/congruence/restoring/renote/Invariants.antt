@@ -8,5 +8,5 @@ invariant-loop-picture g l =
     let reps = g.K.Keeper.reps in
     record {
       same : reps l.k ≡ reps l.initial.k;
-      renoted : Renoted (rep (reps l.initial.k)) l.picture-index l.initial.pictures l.pictures;
+      renoted : Renoted (rep (reps l.initial.k)) l.picture-index l.initial.picture-items l.picture-items;
     }

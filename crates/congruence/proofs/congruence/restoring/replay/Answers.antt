@@ -1,7 +1,9 @@
-use Rattle.std.proofs.Common.{ℕ, List, length, get_or, sym, ap, ◌∙◌, subst, arith}
+use Rattle.std.proofs.Common.{◌≡◌, ℕ, ◌≤◌, Ok, Err, Result, List, length, get_or, sym, ap, ◌∙◌, subst, arith}
 use Rattle.std.proofs.lemmas.List.{length-map, take_all, get_or_default}
 use Rattle.std.proofs.lemmas.List.FromFn.{length-range_with_len}
 use Rattle.std.specs.List.{range_with_len}
+use Rattle.keepers.specs.declared.keeper.KeeperFault.{KeeperFault}
+use Rattle.keepers.specs.Counting.{Populated}
 use Rattle.congruence.specs.declared.journal.Join.{Join}
 use Rattle.congruence.specs.declared.journal.Cause.TheVariants.{Entry}
 use Rattle.congruence.specs.Drawn.{drawn, sheet}
@@ -13,10 +15,15 @@ use Rattle.congruence.proofs.congruence.restoring.replay.Goals as goal
 abbrev at : List Join → ℕ → Join
 at J i = get_or J i (record { left = 0; right = 0; cause = Entry 0 })
 
+-- the keeper has room for all pictures
+populated : (cap n : ℕ) (rs : List ℕ) (r : Result Unit KeeperFault) → n ≤ cap → Populated cap n rs r → rs ≡ range_with_len 1 n
+populated cap n rs (Ok _) l p = p.1
+populated cap n rs (Err e) l p = absurd (omega (arith, l, p.0))
+
 pub loop-join-init : goal.loop-join-init
 loop-join-init g c =
     let ps = c.args.pictures.now in
-    let e = c.populate.ensures ∙ ap (range_with_len 1) (sym (length-map ps drawn)) in
+    let e = populated g.K.Keeper.limit (length ps) _ c.populate.result c.requires.limit c.populate.ensures ∙ ap (range_with_len 1) (sym (length-map ps drawn)) in
     record { counted = ap length e ∙ length-range_with_len 1 (length (sheet ps)); books = books_none (sheet ps) _ e }
 
 pub unite-requires : goal.unite-requires

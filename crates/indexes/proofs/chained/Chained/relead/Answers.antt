@@ -1,32 +1,29 @@
-use Rattle.std.proofs.Common.{◌-◌, ◌<◌, map, length, get_or, set, Some, vec_items, sym, ap, ◌∙◌, subst, arith}
-use Rattle.indexes.specs.Meaning.{held, leading}
-use Rattle.indexes.specs.Records.{lead_of}
-use Rattle.indexes.specs.Buckets.{link_of, bucket_of, leads_of, SortedOut}
-use Rattle.indexes.specs.Leads.{led-apart, led-held, map_same, bucket_same}
+use Rattle.std.proofs.Common.{◌-◌, ◌<◌, map, length, get_or, set, vec_items, sym, ap, ◌∙◌, subst, arith}
+use Rattle.std.proofs.lemmas.List.{length-map}
+use Rattle.indexes.specs.Meaning.{held, apart}
+use Rattle.indexes.specs.Buckets.{link_of, lead_in, bucket_of, somes, SortedOut}
+use Rattle.indexes.specs.Cells.{located_has}
+use Rattle.indexes.specs.Leads.{led-apart, led-held, redirected_leads, redirected_buckets, redirected_links}
 use Rattle.indexes.proofs.chained.Chained.relead.Goals as goal
 
 pub invariant_of-self : goal.invariant_of-self
 invariant_of-self c =
     let s = c.args.self.now in
     let xs = vec_items s.cells in
+    let hs = vec_items s.heads in
     let i = c.args.f.cell - 1 in
-    let p = c.requires in
-    let l : i < length xs = omega (arith, p.low, p.high) in
-    let r = c.index_mut.result.now in
+    let l : i < length xs = omega (arith, c.requires.low, c.requires.high) in
+    let m : i < length (map lead_in xs) = simp length-map l in
     let n = c.lead_to.new.self in
+    let t = c.lead_to.ensures in
     let e = c.index_mut.ensures.value in
-    let is = c.lead_to.ensures.used ∙ ap (λ x. x.used) e in
-    let op = ap (λ x. x.op) c.lead_to.ensures.lead ∙ ap (λ x. (lead_of x.«record»).op) e in
-    let row = ap (λ x. x.row) c.lead_to.ensures.lead ∙ ap (λ x. (lead_of x.«record»).row) e in
-    let lk = map_same link_of xs i r n l (c.lead_to.ensures.next ∙ ap link_of e) in
-    let bk = map_same bucket_of xs i r n l (bucket_same n (get_or xs i r) is op row) in
     record {
       buckets = s.buckets;
       table = s.table;
       room = s.room;
-      once = led-apart xs i l c.args.op c.args.row.now r (p.bears r) s.once n is op row;
-      sorted = λ b m. subst (λ x. SortedOut x (map bucket_of (set xs i n)) (get_or (vec_items s.heads) b 0) b) (sym lk)
-          (subst (λ x. SortedOut (map link_of xs) x (get_or (vec_items s.heads) b 0) b) (sym bk) (s.sorted b m));
+      once = ap (λ x. apart (somes x)) (redirected_leads xs i _ _ n l e t.next t.lead) ∙ led-apart (map lead_in xs) i m _ _ (located_has xs hs _ _ c.args.f c.requires) s.once _;
+      sorted = λ b k. subst (λ x. SortedOut x (map bucket_of (set xs i n)) (get_or hs b 0) b) (sym (redirected_links xs i _ _ n l e t.next t.lead))
+          (subst (λ x. SortedOut (map link_of xs) x (get_or hs b 0) b) (sym (redirected_buckets xs i _ _ n l e t.next t.lead)) (s.sorted b k));
     }
 
 pub returns : goal.returns
@@ -34,13 +31,7 @@ returns c = λ q v.
     let s = c.args.self.now in
     let xs = vec_items s.cells in
     let i = c.args.f.cell - 1 in
-    let p = c.requires in
-    let l : i < length xs = omega (arith, p.low, p.high) in
-    let r = c.index_mut.result.now in
-    let n = c.lead_to.new.self in
-    let e = c.index_mut.ensures.value in
-    let is = c.lead_to.ensures.used ∙ ap (λ x. x.used) e in
-    let op = ap (λ x. x.op) c.lead_to.ensures.lead ∙ ap (λ x. (lead_of x.«record»).op) e in
-    let row = ap (λ x. x.row) c.lead_to.ensures.lead ∙ ap (λ x. (lead_of x.«record»).row) e in
-    led-held xs i l c.args.op c.args.row.now r (p.bears r) s.once n is op row q v
-    ∙ ap (λ x. leading (held (leads_of xs)) c.args.op c.args.row.now (Some x) q v) (ap (λ x. x.picture) c.lead_to.ensures.lead)
+    let l : i < length xs = omega (arith, c.requires.low, c.requires.high) in
+    let m : i < length (map lead_in xs) = simp length-map l in
+    ap (λ x. held (somes x) q v) (redirected_leads xs i _ _ _ l c.index_mut.ensures.value c.lead_to.ensures.next c.lead_to.ensures.lead)
+    ∙ led-held (map lead_in xs) i m _ _ (located_has xs _ _ _ c.args.f c.requires) s.once _ q v

@@ -17,7 +17,7 @@ returns c =
     let f = c.args.f in
     let v = c.as_mut_slice.ensures.value in
     let r : vec_items (with_items s.cells ys) ≡ ys = with_items_is s.cells ys (omega (arith, ap length v)) in
-    ap leads_of (r ∙ c.move_cell-out.ensures.records ∙ ap (λ x. moved_cell x f c.index-2.result.now c.args.body) v) ∙ leads_moved (vec_items s.cells) f c.index-2.result.now c.args.body
+    ap leads_of (r ∙ c.move_cell-out.ensures.records ∙ ap (λ x. moved_cell x f c.index-2.result.now c.args.b) v) ∙ leads_moved (vec_items s.cells) f c.index-2.result.now c.args.b
 
 pub invariant_of-self : goal.invariant_of-self
 invariant_of-self c =
@@ -25,7 +25,7 @@ invariant_of-self c =
     let xs = vec_items s.cells in
     let hs = vec_items s.heads in
     let f = c.args.f in
-    let body = c.args.body in
+    let body = c.args.b in
     let to = c.index-2.result.now in
     let out = c.move_cell-out.result in
     let ys = c.move_cell-out.new.cells in

@@ -1,10 +1,14 @@
-use Rattle.std.proofs.Common.{Some, vec_items, sym, ap, ◌∙◌}
-use Rattle.indexes.specs.Records.{lead_of}
+use Rattle.std.proofs.Common.{sym, vec_items, ◌∙◌}
 use Rattle.indexes.specs.Cells.{located_held}
+use Rattle.indexes.proofs.Long.{none_of_cells}
 use Rattle.indexes.proofs.chained.calls.ChainedIndex.query.Goals as goal
 
-pub returns-in-Some : goal.returns-in-Some
-returns-in-Some c =
+pub returns-in_err-new : goal.returns-in_err-new
+returns-in_err-new c = c.from_residual.ensures ∙ sym (none_of_cells c.args.op c.args.row.now c.in_err-new.ensures (vec_items c.args.self.now.cells))
+
+pub returns : goal.returns
+returns c =
     let s = c.args.self.now in
-    ap Some (c.picture.ensures ∙ ap (λ x. (lead_of x.«record»).picture) c.index.ensures)
-    ∙ sym (located_held (vec_items s.cells) (vec_items s.heads) c.args.op c.args.row.now c.in-Some.f s.once c.in-Some.ensures c.index.result.now)
+    let e = c.in_ok-new.ensures in
+    let h = located_held (vec_items s.cells) (vec_items s.heads) _ _ c.in_ok-f.f s.once c.in_ok-f.ensures c.index.result.now in
+    cc (e.0, e.1, h, c.picture.ensures, c.index.ensures)

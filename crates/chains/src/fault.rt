@@ -1,0 +1,8 @@
+// Why a call on a chain is refused. A refused call changes nothing.
+#[derive(Clone, Copy, PartialEq, Eq, Debug)]
+pub enum ChainFault {
+    // a cell is not in the table
+    Outside,
+    // the chain leaves the table or does not end
+    Broken,
+}
