@@ -87,11 +87,18 @@ impl Links {
         Ok(Links { links })
     }
 
+    // The number of pictures.
+    fn count(&self) -> usize
+        ensures { result ≡ pictures self.now.links.items }
+    {
+        self.links.len() - 1
+    }
+
     // Whether p is one of the pictures.
     fn has(&self, p: u16) -> bool
         ensures { (result ≡ true) ↔ Upto (pictures self.now.links.items) p }
     {
-        0 < p && (p as usize) < self.links.len()
+        0 < p && p as usize <= self.count()
     }
 }
 
@@ -113,10 +120,10 @@ impl Keeper for Links {
     }
 
     fn grow(&mut self) -> Result<u16, KeeperFault> {
-        if self.links.len() == 1025 {
+        if self.count() == 1024 {
             return Err(KeeperFault::Full);
         }
-        let p = self.links.len() as u16;
+        let p = self.count() as u16 + 1;
         self.links.push_reserved(Link { parent: p, rank: 0 });
         Ok(p)
     }
