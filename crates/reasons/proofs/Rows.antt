@@ -4,7 +4,7 @@ use Rattle.std.specs.List.{AllZip}
 use Rattle.std.proofs.lemmas.List.{take_all, take_more, get_or-map}
 use Rattle.std.proofs.lemmas.List.Elements.{AllZip-push}
 use Rattle.theory.specs.Sheet.{blank, inputs}
-use Rattle.indexes.specs.Rows.{cells_of}
+use Rattle.rows.specs.Row.{cells_of}
 use Rattle.congruence.specs.declared.picture.Picture.{Picture}
 use Rattle.congruence.specs.Drawn.{drawn, sheet}
 

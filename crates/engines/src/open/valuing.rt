@@ -3,7 +3,7 @@ ghost use Rattle.theory.specs.Sheet.{On, Lowest};
 ghost use Rattle.theory.specs.Calls.{Answers};
 ghost use Rattle.theory.specs.Calls.{value as asking_value};
 ghost use Rattle.theory.specs.Calls.{apply as applying};
-ghost use Rattle.indexes.specs.Rows.{cells_of};
+ghost use Rattle.rows.specs.Row.{cells_of};
 ghost use Rattle.engines.specs.Content.{content, pictures_on, entries_on};
 ghost use Rattle.engines.specs.Faults.{value_reply};
 ghost use Rattle.engines.specs.Whole.{Whole};

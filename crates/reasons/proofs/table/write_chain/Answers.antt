@@ -1,7 +1,7 @@
 use Rattle.std.proofs.Common.{◌≡◌, ℕ, Bool, cond, map, length, is_ok, IfOk, Ok, Result, ap, ◌∙◌, subst, arith}
 use Rattle.std.specs.List.{range_with_len}
 use Rattle.std.proofs.lemmas.Bool.{le-leb}
-use Rattle.chains.specs.declared.builds.ChainFault.{ChainFault}
+use Rattle.chains.specs.declared.fault.ChainFault.{ChainFault}
 use Rattle.chains.specs.Build.{answered}
 use Rattle.chains.specs.Chain.{Chain}
 use Rattle.chains.specs.Thread.{first_of, Threaded}

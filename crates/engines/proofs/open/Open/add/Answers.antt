@@ -5,7 +5,7 @@ use Rattle.std.proofs.lemmas.Result.{err_from_is_err_and}
 use Rattle.theory.specs.Sheet.{Picture, On, Lowest}
 use Rattle.theory.specs.Calls.{Answers, after, add}
 use Rattle.keepers.specs.Meaning.{Upto}
-use Rattle.indexes.specs.Rows.{cells_of}
+use Rattle.rows.specs.Row.{cells_of}
 use Rattle.indexes.specs.Meaning.{held}
 use Rattle.congruence.specs.Drawn.{drawn, sheet}
 use Rattle.congruence.specs.Waiting.{Working}

@@ -2,7 +2,7 @@ use Rattle.std.proofs.Common.{vec_items, refl}
 use Rattle.std.proofs.lemmas.List.Elements.{All-weaker}
 use Rattle.theory.specs.Sheet.{On}
 use Rattle.keepers.specs.Meaning.{rep, Within}
-use Rattle.indexes.specs.Rows.{cells_of}
+use Rattle.rows.specs.Row.{cells_of}
 use Rattle.indexes.specs.Meaning.{held}
 use Rattle.congruence.proofs.Journals.{within}
 use Rattle.engines.specs.Content.{pictures_on, entries_on}

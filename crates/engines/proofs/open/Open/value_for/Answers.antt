@@ -1,6 +1,6 @@
 use Rattle.std.proofs.Common.{All, ◌∙◌}
 use Rattle.std.proofs.lemmas.Bool.{both_ways}
-use Rattle.indexes.specs.Rows.{cells_of}
+use Rattle.rows.specs.Row.{cells_of}
 use Rattle.engines.specs.Content.{content, pictures_on, entries_on}
 use Rattle.engines.specs.Values.{Value}
 use Rattle.engines.proofs.Values.{apply_answers, no_value_applies, on_values, found_applies, none_found_applies}
