@@ -1,7 +1,6 @@
-ghost use Rattle.std.specs.Prelude.{ℕ, ◌==◌};
-ghost use Rattle.std.proofs.Common.{rules};
+ghost use Rattle.std.specs.Prelude.{◌==◌, refl};
 
-use chains::{Found, Linked, Test, Walked, append, push, thread, unlink, walk};
+use chains::{Found, Linked, Test, append, push, thread, unlink, walk};
 
 // A record that has nothing but a next and a name.
 #[derive(Clone, Copy)]
@@ -15,11 +14,11 @@ impl Linked for Bead {
 
     ghost led = { λ b n. record { name = b.name; next = n } };
 
-    ghost leads = { Prim.search rules };
+    ghost leads = { λ r n. refl };
 
-    ghost kept = { Prim.search rules };
+    ghost kept = { λ r. refl };
 
-    ghost again = { Prim.search rules };
+    ghost again = { λ r m n. refl };
 
     fn next(&self) -> u16 {
         self.next
@@ -45,9 +44,9 @@ impl Test<Bead> for Named {
 // Where a walk comes to, as a number: the cell, 0 for the end, 99 for a broken chain.
 fn seek(cells: &[Bead], head: u16, name: u16) -> u16 {
     match walk(cells, head, &Named(name)) {
-        Walked::At(found) => found.cell,
-        Walked::End => 0,
-        Walked::Broken => 99,
+        Ok(Some(found)) => found.cell,
+        Ok(None) => 0,
+        Err(_) => 99,
     }
 }
 

@@ -1,7 +1,7 @@
 -- Laws of `held`: what one more entry, another picture, or one entry less does to the map. Assumes nothing.
-use Rattle.std.specs.Prelude.{◌≡◌, ℕ, suc, ◌+◌, ◌<◌, true, false, cond, not, List, [], ◌∷◌, ◌++◌, length, get_or, take, drop, is_some, Some, None, Decides, Option, ◌==◌, slice_index_or, slice_set, refl}
+use Rattle.std.specs.Prelude.{◌≡◌, ℕ, suc, ◌<◌, true, false, cond, not, List, [], ◌∷◌, ◌++◌, length, get_or, take, drop, is_some, Some, None, Decides, Option, ◌==◌, slice_index_or, slice_set, refl}
 use Rattle.std.proofs.Common.{sym, ap, ◌∙◌, inl, inr, rules}
-use Rattle.std.proofs.lemmas.List.{set-get_or, set_split, take_more}
+use Rattle.std.proofs.lemmas.List.{set-get_or, set_split}
 use Rattle.std.proofs.lemmas.Slice.Eq.{compares_Decides}
 use Rattle.std.proofs.lemmas.Bool.{cases_Bool, cond-true, cond-false, and_parts, and_from, eqb-true, eq-eqb, true≢false}
 use Rattle.indexes.specs.Meaning.{Lead, held, apart, same_row, same_signature, leading}
@@ -16,10 +16,6 @@ same_is o q w v h = let p = and_parts (o == q) (same_row w v) h in (eqb-true o q
 
 pub is_same : (o q : ℕ) (w v : List ℕ) → o ≡ q → w ≡ v → same_signature o w q v ≡ true
 is_same o q w v e f = and_from (o == q) (same_row w v) (eq-eqb o q e) ((row_decides w v).1 f)
-
--- a test at one signature is a test at the other
-same_at : (o q : ℕ) (w v : List ℕ) (e : ℕ) (r : List ℕ) → same_signature o w q v ≡ true → same_signature e r o w ≡ same_signature e r q v
-same_at o q w v e r h = let s = same_is o q w v h in ap (λ x. same_signature e r x w) s.0 ∙ ap (same_signature e r q) s.1
 
 pub swapped : (o q : ℕ) (w v : List ℕ) → same_signature o w q v ≡ true → same_signature q v o w ≡ true
 swapped o q w v h = let s = same_is o q w v h in is_same q o v w (sym s.0) (sym s.1)
@@ -201,12 +197,6 @@ held_absent es o w none q v =
       | inl h ↦ (held_same es o q w v h ∙ none ∙ sym (cond-true _ _ _ h))
       | inr h ↦ sym (cond-false _ _ _ h)
     ]
-
--- one entry more that was looked at
-pub held_more : (es : List Lead) (o : ℕ) (w : List ℕ) (i : ℕ) (d : Lead) → i < length es → held (take i es) o w ≡ None → same_signature (get_or es i d).op (get_or es i d).row o w ≡ false → held (take (i + 1) es) o w ≡ None
-held_more es o w i d l none h =
-    ap (λ x. held x o w) (take_more es i d l) ∙ held_append (take i es) (slice_index_or es i d ∷ []) o w
-    ∙ ap (λ x. or_else x (held (slice_index_or es i d ∷ []) o w)) none ∙ cons_other (slice_index_or es i d) [] o w h
 
 -- ---- an entry more, in the middle
 pub held_inserted : (xs ys : List Lead) (e : Lead) → held (xs ++ ys) e.op e.row ≡ None → (q : ℕ) (v : List ℕ) → held (xs ++ e ∷ ys) q v ≡ leading (held (xs ++ ys)) e.op e.row (Some e.picture) q v

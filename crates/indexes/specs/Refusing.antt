@@ -1,12 +1,8 @@
 -- What enter answers, by cases. Assumes nothing.
 use Rattle.std.specs.Prelude.{◌≡◌, ℕ, ◌<◌, ◌≤◌, not, List, length, is_some, Some, None, nat_le}
 use Rattle.std.proofs.Common.{ap, ◌∙◌}
-use Rattle.std.proofs.lemmas.Bool.{cond-true, cond-false, le-ltb, le-leb, lt-leb, and_from, and_left, and_right}
-use Rattle.indexes.specs.declared.index.IndexFault.TheVariants.{Full}
+use Rattle.std.proofs.lemmas.Bool.{cond-false, le-ltb, lt-leb, and_left, and_right}
 use Rattle.indexes.specs.Meaning.{Lead, held, enter_fault}
-
-pub refused_full : (es : List Lead) (o : ℕ) (w : List ℕ) → length w ≤ 4 → 1024 ≤ length es → held es o w ≡ None → enter_fault es o w ≡ Some Full
-refused_full es o w s l n = cond-false _ _ _ (le-ltb 4 (length w) s) ∙ cond-true _ _ _ (and_from (nat_le 1024 (length es)) (not (is_some (held es o w))) (le-leb 1024 (length es) l) (ap (λ x. not (is_some x)) n))
 
 pub taken_held : (es : List Lead) (o : ℕ) (w : List ℕ) (p : ℕ) → length w ≤ 4 → held es o w ≡ Some p → enter_fault es o w ≡ None
 taken_held es o w p s n = cond-false _ _ _ (le-ltb 4 (length w) s) ∙ cond-false _ _ _ (and_right (nat_le 1024 (length es)) (not (is_some (held es o w))) (ap (λ x. not (is_some x)) n))

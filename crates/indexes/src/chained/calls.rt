@@ -2,9 +2,9 @@ ghost use Rattle.indexes.specs.Buckets.{leads_of};
 ghost use Rattle.std.proofs.Common.{arith};
 ghost use Rattle.indexes.specs.Spares.{leads_few};
 
-use super::super::index::{Index, IndexFault};
-use super::super::signature::Signature;
 use super::Chained;
+use crate::index::{Index, IndexFault};
+use crate::signature::Signature;
 
 impl Index for Chained {
     ghost leads = { λ s. leads_of s.cells.items };

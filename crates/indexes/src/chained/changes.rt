@@ -3,11 +3,11 @@ ghost use Rattle.rows.specs.Row.{cells_of};
 ghost use Rattle.indexes.specs.Meaning.{held, leading};
 ghost use Rattle.indexes.specs.Buckets.{leads_of, Located};
 
-use super::super::cell::Cell;
-use super::super::index::{IndexFault, LIMIT};
-use super::super::record::Record;
-use super::super::signature::Signature;
 use super::Chained;
+use crate::cell::Cell;
+use crate::index::{IndexFault, LIMIT};
+use crate::record::Record;
+use crate::signature::Signature;
 use chains::Found;
 
 impl Chained {
@@ -20,7 +20,8 @@ impl Chained {
         if self.heads[0] != 0 {
             return Ok(());
         }
-        if self.cells.len() >= LIMIT {
+        let made = self.cells.len();
+        if made >= LIMIT {
             return Err(IndexFault::Full);
         }
         self.cells.push_reserved(Cell::spare());

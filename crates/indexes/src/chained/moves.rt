@@ -3,8 +3,8 @@ ghost use Rattle.chains.specs.Chain.{Chain, last_or};
 ghost use Rattle.indexes.specs.Meaning.{apart};
 ghost use Rattle.indexes.specs.Buckets.{link_of, lead_in, bucket_of, somes, leads_of, On, left_out, moved_cell};
 
-use super::super::cell::Cell;
 use super::Chained;
+use crate::cell::Cell;
 use chains::{Found, push, unlink};
 
 // Takes a cell out of the chain `from`, writes what it is to hold, and puts it in front of the chain `to`.

@@ -3,9 +3,9 @@ ghost use Rattle.rows.specs.Row.{cells_of};
 ghost use Rattle.indexes.specs.Meaning.{held};
 ghost use Rattle.indexes.specs.Buckets.{leads_of, Located};
 
-use super::super::index::LIMIT;
-use super::super::signature::Signature;
 use super::Chained;
+use crate::index::LIMIT;
+use crate::signature::Signature;
 use chains::{Found, walk};
 use std::alloc::{AllocError, Global};
 

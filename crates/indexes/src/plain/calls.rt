@@ -5,10 +5,10 @@ ghost use Rattle.indexes.specs.Records.{lead_of, Stands};
 ghost use Rattle.std.proofs.Common.{arith, rules};
 ghost use Rattle.std.proofs.lemmas.List.{length-map};
 
-use super::super::index::{Index, IndexFault, LIMIT};
-use super::super::record::Record;
-use super::super::signature::Signature;
 use super::Plain;
+use crate::index::{Index, IndexFault, LIMIT};
+use crate::record::Record;
+use crate::signature::Signature;
 use std::alloc::{AllocError, Global};
 
 impl Plain {
