@@ -7,5 +7,4 @@ pub mod Cutting
 pub mod Printing
 pub mod Takings
 pub mod Doing
-pub mod Putting
 pub mod Records

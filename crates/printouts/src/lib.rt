@@ -9,10 +9,8 @@ pub mod line;
 mod number;
 // reads a line
 pub mod form;
-// what a line is answered
+// what a line is answered, and how that is printed
 pub mod reply;
-// how that is printed
-mod print;
 // makes the call that a line asks for
 mod call;
 // goes over the lines of a text, and prints the record

@@ -1,15 +1,16 @@
-ghost use Rattle.std.specs.Prelude.{◌≡◌, ◌<◌, ◌∷◌, length, IfOk};
+ghost use Rattle.std.specs.Prelude.{◌≡◌, ◌<◌, ◌∷◌, ◌==◌, length, position, IfOk, string_bytes};
 ghost use Rattle.engines.specs.Content.{content};
 ghost use Rattle.engines.specs.Whole.{Whole};
 ghost use Rattle.printouts.specs.Replies.{Did};
 ghost use Rattle.printouts.specs.Printouts.{lines, Prints, Printout, OneRecord};
 
 use crate::call::answer_line;
-use crate::print::{put_one, say};
+use crate::reply::say;
 use engines::{Open, Step};
 use indexes::Index;
 use keepers::Keeper;
 use std::alloc::{AllocError, Global};
+use std::fmt::Write;
 
 // The longest text, in bytes.
 const LONGEST: usize = 65536;
@@ -32,16 +33,17 @@ pub fn print_record<K: Keeper + Drop, I: Index + Drop>(
     keeper: K,
     index: I,
     text: &[u8],
-) -> Result<Vec<u8>, AllocError>
-    ensures { IfOk result (λ s. Printout K.Keeper.limit text.now s.items) }
+) -> Result<String, AllocError>
+    ensures { IfOk result (λ s. Printout K.Keeper.limit text.now (string_bytes s)) }
 {
     if text.len() > LONGEST {
-        return b"no 9 0\n".to_vec(heap);
+        return String::from_str(heap, "no 9 0\n");
     }
     let mut sheet = Open::new(heap, keeper, index)?;
     let mut table = vec![in heap; BLANK; CELLS]?;
     let mut out = answer_lines(heap, &mut sheet, table.as_mut_slice(), text)?;
-    put_one(&mut out, b"classes ", sheet.classes() as usize)?;
+    let classes = sheet.classes();
+    writeln!(out, "classes {classes}")?;
     Ok(out)
 }
 
@@ -51,13 +53,13 @@ fn answer_lines<K: Keeper, I: Index>(
     sheet: &mut Open<K, I>,
     table: &mut [Step],
     text: &[u8],
-) -> Result<Vec<u8>, AllocError>
+) -> Result<String, AllocError>
     requires whole { Whole K.Keeper I.Index sheet.old }
     requires cells { length table.old ≡ 1024 }
     ensures whole { Whole K.Keeper I.Index sheet.new }
-    ensures prints { IfOk result (λ s. Prints (Did K.Keeper.limit) (content sheet.old) (lines text.now) s.items (content sheet.new)) }
+    ensures prints { IfOk result (λ s. Prints (Did K.Keeper.limit) (content sheet.old) (lines text.now) (string_bytes s) (content sheet.new)) }
 {
-    let mut out = Vec::new(heap);
+    let mut out = String::new(heap);
     let mut rest = text;
     while !rest.is_empty() {
         let (line, next) = cut_line(rest);
@@ -74,12 +76,17 @@ fn cut_line(text: &[u8]) -> (&[u8], &[u8])
     ensures lines { lines text.now ≡ result.0.now ∷ lines result.1.now }
     ensures less { length result.1.now < length text.now }
 {
-    for (i, b) in text.iter().enumerate() {
-        if *b == b'\n' {
-            return (&text[..i], &text[i + 1..]);
-        }
+    match newline(text) {
+        Some(end) => (&text[..end], &text[end + 1..]),
+        None => (text, &[]),
     }
-    (text, &text[text.len()..])
+}
+
+// Where the first line of a text ends, if a byte ends it.
+fn newline(text: &[u8]) -> Option<usize>
+    ensures { result ≡ position (λ b. b == 10) text.now }
+{
+    text.iter().position(|b| *b == b'\n')
 }
 
 // A text has at most one record, for each capacity of the keeper: the definitions leave no byte of it free.

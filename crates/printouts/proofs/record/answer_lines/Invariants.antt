@@ -1,4 +1,4 @@
-use Rattle.std.proofs.Common.{length, vec_items}
+use Rattle.std.proofs.Common.{length, string_bytes}
 use Rattle.engines.specs.Content.{content}
 use Rattle.engines.specs.Whole.{Whole}
 use Rattle.printouts.specs.Replies.{Did}
@@ -6,7 +6,7 @@ use Rattle.printouts.proofs.Printing.{Awaits}
 use Rattle.printouts.proofs.record.answer_lines.Given as goal
 
 abbrev pub invariant-loop-rest : goal.invariant-loop-rest
-invariant-loop-rest g l = Whole g.K.Keeper g.I.Index l.sheet × Awaits (Did g.K.Keeper.limit) (content l.initial.sheet) l.text (vec_items l.out) (content l.sheet) l.rest
+invariant-loop-rest g l = Whole g.K.Keeper g.I.Index l.sheet × Awaits (Did g.K.Keeper.limit) (content l.initial.sheet) l.text (string_bytes l.out) (content l.sheet) l.rest
 
 abbrev pub decreases-loop-rest : goal.decreases-loop-rest
 decreases-loop-rest g l = length l.rest

@@ -1,24 +1,19 @@
-use Rattle.std.proofs.Common.{◌+◌, ◌∷◌, length, take, sym, ap, ◌∙◌, arith, rules}
-use Rattle.std.proofs.lemmas.List.{take_rest, drop_all, length-drop}
+use Rattle.std.proofs.Common.{◌≡◌, ◌+◌, ◌∷◌, Some, None, take, sym, ap, ◌∙◌, rules}
+use Rattle.std.specs.Prelude.{position}
+use Rattle.std.proofs.lemmas.List.{take_rest}
 use Rattle.printouts.specs.Printouts.{lines}
-use Rattle.printouts.proofs.Cutting.{cut_at, cut_last}
+use Rattle.printouts.proofs.Cutting.{newline, cut_at, cut_last}
 use Rattle.printouts.proofs.record.cut_line.Goals as goal
 
-pub returns-then-b-eq10 : goal.returns-then-b-eq10
-returns-then-b-eq10 c =
+pub returns-in-Some-clause-lines : goal.returns-in-Some-clause-lines
+returns-in-Some-clause-lines c =
     let text = c.args.text.now in
-    let i = c.loop-i.i in
-    let e = take_rest text (i + 1) in
-    record {
-      lines = cut_at text i (search rules) (search rules) c.loop-i.invariant ∙ ap (λ x. take i text ∷ lines x) (sym e);
-      less = rw e (rw length-drop (search rules));
-    }
+    let i = c.in-Some.end in
+    let e : position newline text ≡ Some i = sym c.newline.ensures ∙ c.in-Some.is in
+    cut_at text i e ∙ ap (λ x. take i text ∷ lines x) (sym (take_rest text (i + 1)))
 
-pub returns : goal.returns
-returns c =
+pub returns-in-None-clause-lines : goal.returns-in-None-clause-lines
+returns-in-None-clause-lines c =
     let text = c.args.text.now in
-    let e = take_rest text (length text) ∙ drop_all (length text) text (omega arith) in
-    record {
-      lines = cut_last text (search rules) (search rules) ∙ ap (λ x. text ∷ lines x) (sym e);
-      less = rw e (search rules);
-    }
+    let e : position newline text ≡ None = sym c.newline.ensures ∙ c.in-None.is in
+    cut_last text (search rules) e

@@ -1,4 +1,4 @@
-use Rattle.std.proofs.Common.{vec_items, subst, arith, rules}
+use Rattle.std.proofs.Common.{string_bytes, subst, arith, rules}
 use Rattle.std.proofs.lemmas.Result.{IfOk-from_err}
 use Rattle.theory.specs.Calls.{Content}
 use Rattle.engines.specs.Content.{content}
@@ -9,18 +9,18 @@ use Rattle.printouts.proofs.record.print_record.Goals as goal
 pub returns-in_err-out : goal.returns-in_err-out
 returns-in_err-out g c = IfOk-from_err c.from_residual-in_err-out.result _ c.from_residual-in_err-out.ensures.0
 
-pub returns-in_err-put_one : goal.returns-in_err-put_one
-returns-in_err-put_one g c = IfOk-from_err c.from_residual-in_err-put_one.result _ c.from_residual-in_err-put_one.ensures.0
+pub returns-in_err-writeln : goal.returns-in_err-writeln
+returns-in_err-writeln g c = IfOk-from_err c.from_residual-in_err-writeln.result _ c.from_residual-in_err-writeln.ensures.0
 
 pub returns : goal.returns
 returns g c = (
   (λ _. record {
     end = content c.answer_lines.new.sheet;
-    body = vec_items c.in_ok-out.out;
-    classes = c.classes.result;
-    each = subst (λ (s : Content). Prints (Did g.K.Keeper.limit) s (lines c.args.text.now) (vec_items c.in_ok-out.out) (content c.answer_lines.new.sheet)) c.in_ok-sheet.ensures.empty
+    body = string_bytes c.in_ok-out.out;
+    classes = c.classes-classes.result;
+    each = subst (λ (s : Content). Prints (Did g.K.Keeper.limit) s (lines c.args.text.now) (string_bytes c.in_ok-out.out) (content c.answer_lines.new.sheet)) c.in_ok-sheet.ensures.empty
         c.in_ok-out.ensures.prints;
-    counted = c.classes.ensures;
+    counted = c.classes-classes.ensures;
     whole = search rules;
   }),
   (λ h. absurd (omega arith)),
