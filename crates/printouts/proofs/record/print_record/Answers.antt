@@ -15,10 +15,10 @@ returns-in_err-writeln g c = IfOk-from_err c.from_residual-in_err-writeln.result
 pub returns : goal.returns
 returns g c = (
   (λ _. record {
-    end = content c.answer_lines.new.sheet;
+    end = content c.answer_lines.new.self.sheet;
     body = string_bytes c.in_ok-out.out;
     classes = c.classes-classes.result;
-    each = subst (λ (s : Content). Prints (Did g.K.Keeper.limit) s (lines c.args.text.now) (string_bytes c.in_ok-out.out) (content c.answer_lines.new.sheet)) c.in_ok-sheet.ensures.empty
+    each = subst (λ (s : Content). Prints (Did g.K.Keeper.limit) s (lines c.args.text.now) (string_bytes c.in_ok-out.out) (content c.answer_lines.new.self.sheet)) c.in_ok-desk.ensures.empty
         c.in_ok-out.ensures.prints;
     counted = c.classes-classes.ensures;
     whole = search rules;

@@ -3,7 +3,7 @@ use Rattle.std.specs.Prelude.{position}
 use Rattle.std.proofs.lemmas.List.{take_rest}
 use Rattle.printouts.specs.Printouts.{lines}
 use Rattle.printouts.proofs.Cutting.{newline, cut_at, cut_last}
-use Rattle.printouts.proofs.record.cut_line.Goals as goal
+use Rattle.printouts.proofs.cut.cut_line.Goals as goal
 
 pub returns-in-Some-clause-lines : goal.returns-in-Some-clause-lines
 returns-in-Some-clause-lines c =
