@@ -1,9 +1,9 @@
 -- What the reader knows between two numbers of a line, how one more number keeps it, and what it gives at the end. Assumes nothing.
-use Rattle.std.proofs.Common.{◌≡◌, ℕ, suc, ◌+◌, ◌-◌, ◌<◌, ◌≤◌, Bool, cond, List, [], ◌∷◌, ◌++◌, map, length, get_or, take, drop, Ok, Err, All, Result, sym, refl, ap, ◌∙◌, subst, inl, inr, arith, MatchResult}
+use Rattle.std.proofs.Common.{◌≡◌, ℕ, ◌+◌, ◌-◌, ◌<◌, ◌≤◌, Bool, cond, List, [], ◌∷◌, ◌++◌, map, length, get_or, take, drop, Ok, Err, All, Result, sym, refl, ap, ◌∙◌, subst, inl, inr, arith, MatchResult}
 use Rattle.std.specs.Prelude.{nat_lt}
 use Rattle.std.specs.Result.{result_and}
 use Rattle.std.proofs.lemmas.Bool.Decides.{nat_tests}
-use Rattle.std.proofs.lemmas.List.{append_assoc, append-nil, length-append, length_push, map_push}
+use Rattle.std.proofs.lemmas.List.{append_assoc, append-nil, length-append, length_push, map_push, nil_from_length}
 use Rattle.std.proofs.lemmas.Slice.{first_rest}
 use Rattle.std.proofs.lemmas.List.Elements.{All-push}
 use Rattle.printouts.specs.declared.fault.NumberFault.{NumberFault}
@@ -11,7 +11,7 @@ use Rattle.printouts.specs.declared.fault.NumberFault.TheVariants.{Wide}
 use Rattle.printouts.specs.Form.{Numeral, value, spaced, Formed, Spoiled, Narrow, Says, Misread}
 use Rattle.printouts.specs.Numerals.{Bare, Closed, Took, Bounds}
 use Rattle.printouts.specs.Faults.{number_fault_number, number_fault_detail}
-use Rattle.printouts.proofs.Peeling.{Runs, spaced_push, spaced_append}
+use Rattle.printouts.proofs.Peeling.{Runs, spaced_push}
 use Rattle.printouts.proofs.Spoiling.{spoiled_gap, spoiled_space}
 
 -- e names the first of the numerals that is above 65,535
@@ -101,10 +101,6 @@ sofar_wide text rest more next v n numbers (Ok u) s e t large =
     (record { before = s.done; wide = t.ds; after = []; cut = refl; narrow = s.row.0; above = subst (λ x. 65535 < x) t.number large; place = ap Wide (place_more text rest more next v numbers (Ok u) s e t) })
 sofar_wide text rest more next v n numbers (Err f) s e t large = grow text rest more next v numbers (Err f) s e t n (Err f) (first_more text rest more next v numbers (Err f) s e t f s.row)
 
-all_nil : (rest : List ℕ) → length rest ≡ 0 → rest ≡ []
-all_nil [] h = refl
-all_nil (x ∷ xs) h = absurd (omega arith)
-
 module _ (c least most : ℕ) (b : Bounds c least most) (text rest numbers : List ℕ) (fits : Result (Unit {0}) NumberFault) (s : Sofar text rest numbers fits) where
   whole : c ∷ text ≡ c ∷ (spaced s.done ++ rest)
   whole = ap (λ x. c ∷ x) s.cut
@@ -132,7 +128,7 @@ module _ (c least most : ℕ) (b : Bounds c least most) (text rest numbers : Lis
   -- the whole line is read
   formed : length rest ≡ 0 → least ≤ length numbers → length numbers ≤ most → Formed (c ∷ text) c s.done
   formed e enough few = record {
-    spells = whole ∙ ap (λ x. c ∷ x) (ap (λ x. spaced s.done ++ x) (all_nil rest e) ∙ append-nil (spaced s.done));
+    spells = whole ∙ ap (λ x. c ∷ x) (ap (λ x. spaced s.done ++ x) (nil_from_length rest e) ∙ append-nil (spaced s.done));
     proper = s.proper;
     takes = b.to (length s.done) (omega (arith, s.count)) (omega (arith, s.count));
   }

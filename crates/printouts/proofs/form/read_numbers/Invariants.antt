@@ -1,4 +1,4 @@
-use Rattle.std.proofs.Common.{◌+◌, ◌*◌, ◌≤◌, length}
+use Rattle.std.proofs.Common.{◌≤◌, length}
 use Rattle.rows.specs.Row.{cells_of}
 use Rattle.printouts.proofs.Sofar.{Sofar}
 use Rattle.printouts.proofs.form.read_numbers.Given as goal
