@@ -4,31 +4,31 @@
 use indexes::Chained;
 use keepers::Links;
 use printouts::print_record;
-use std::str::from_utf8;
 
 fn main(rt: HostRuntime) -> anyhow::Result<()> {
-    show(&rt, "an empty text", b"")?;
-    show(&rt, "a line that ends too early", b"s 1")?;
-    show(&rt, "a number that is too wide", b"s 65536 1\n")?;
-    show(&rt, "an empty line", b"\n")?;
-    show(
-        &rt,
-        "two lines that end with carriage return and newline",
-        b"p 1\r\np 2\r\n",
-    )?;
-    show(&rt, "a NUL", b"p 1\0\n")?;
-    show(&rt, "a last line without its newline", b"p 1\np 2")?;
-    show(
-        &rt,
-        "bytes that are no text",
-        b"\xff\xfe\x00\x01\x80 \n\x7f",
-    )?;
     let full = full_of_entries(&rt)?;
-    show(&rt, "2,048 entries, and then d 1 1", full.as_slice())?;
     let most = newlines(&rt, 65536)?;
-    show(&rt, "65,536 bytes", most.as_slice())?;
     let over = newlines(&rt, 65537)?;
-    show(&rt, "65,537 bytes", over.as_slice())
+    let lists: [(&str, &[u8]); 11] = [
+        ("an empty text", b""),
+        ("a line that ends too early", b"s 1"),
+        ("a number that is too wide", b"s 65536 1\n"),
+        ("an empty line", b"\n"),
+        (
+            "two lines that end with carriage return and newline",
+            b"p 1\r\np 2\r\n",
+        ),
+        ("a NUL", b"p 1\0\n"),
+        ("a last line without its newline", b"p 1\np 2"),
+        ("bytes that are no text", b"\xff\xfe\x00\x01\x80 \n\x7f"),
+        ("2,048 entries, and then d 1 1", full.as_slice()),
+        ("65,536 bytes", most.as_slice()),
+        ("65,537 bytes", over.as_slice()),
+    ];
+    for (name, text) in lists {
+        show(&rt, name, text)?;
+    }
+    Ok(())
 }
 
 // One picture, 2,048 entries, and one entry more.
@@ -50,17 +50,16 @@ fn newlines(rt: &HostRuntime, n: usize) -> anyhow::Result<Vec<u8>> {
 fn show(rt: &HostRuntime, name: &str, text: &[u8]) -> anyhow::Result<()> {
     let heap = rt.alloc();
     let record = print_record(heap, Links::new(heap)?, Chained::new(heap)?, text)?;
-    let out = from_utf8(record.as_slice())?;
-    let count = out.lines().count();
+    let count = record.lines().count();
     println!(rt; "== {name}: {count} lines")?;
-    for line in out.lines().take(2) {
+    for line in record.lines().take(2) {
         println!(rt; "{line}")?;
     }
     if count > 4 {
         println!(rt; "..")?;
     }
     if count > 2 {
-        for line in out.lines().skip(count.saturating_sub(2).max(2)) {
+        for line in record.lines().skip(count.saturating_sub(2).max(2)) {
             println!(rt; "{line}")?;
         }
     }

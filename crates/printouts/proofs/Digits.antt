@@ -1,7 +1,7 @@
 -- A numeral that is read digit by digit. Assumes nothing.
 use Rattle.std.proofs.Common.{◌≡◌, ℕ, ◌+◌, ◌-◌, ◌*◌, ◌^◌, ◌<◌, ◌≤◌, ◌⊎◌, List, [], ◌∷◌, ◌++◌, length, get_or, take, drop, All, sym, refl, ap, ◌∙◌, subst, inl, inr, pow-suc, add-one, arith}
 use Rattle.std.proofs.lemmas.List.{take_rest, take_more, drop-drop, get_or-drop, get_or-take, length-drop, length-take-le, length-append, take-append-drop}
-use Rattle.std.proofs.lemmas.List.Elements.{All-push, All-more}
+use Rattle.std.proofs.lemmas.List.Elements.{All-more}
 use Rattle.std.proofs.lemmas.Bool.{cases_lt}
 use Rattle.printouts.specs.Numerals.{Longest, Bare, Closed, Took}
 use Rattle.printouts.specs.Form.{Digit, value_after, value}
@@ -10,10 +10,6 @@ use Rattle.printouts.specs.Form.{Digit, value_after, value}
 pub value_push : (n : ℕ) (ds : List ℕ) (c : ℕ) → value_after n (ds ++ (c ∷ [])) ≡ value_after n ds * 10 + (c - 48)
 value_push n [] c = refl
 value_push n (d ∷ ds) c = value_push (n * 10 + (d - 48)) ds c
-
--- the digits with one more
-pub digits_push : (ds : List ℕ) (c : ℕ) → All Digit ds → Digit c → All Digit (ds ++ (c ∷ []))
-digits_push = All-push Digit
 
 -- one more digit keeps the value below the next power of ten
 pub room : (v k c : ℕ) → v < 10 ^ k → Digit c → v * 10 + (c - 48) < 10 ^ (k + 1)

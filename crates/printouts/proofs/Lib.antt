@@ -5,7 +5,5 @@ pub mod Sofar
 pub mod Unique
 pub mod Cutting
 pub mod Printing
-pub mod Takings
 pub mod Doing
-pub mod Putting
 pub mod Records

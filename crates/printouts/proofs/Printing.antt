@@ -1,6 +1,6 @@
 -- A printout that grows line by line. Assumes nothing.
-use Rattle.std.proofs.Common.{◌≡◌, ℕ, List, [], ◌∷◌, ◌++◌, length, sym, refl, ap, ◌∙◌, subst, arith}
-use Rattle.std.proofs.lemmas.List.{append_assoc, append-nil}
+use Rattle.std.proofs.Common.{◌≡◌, ℕ, List, [], ◌∷◌, ◌++◌, length, sym, refl, ap, ◌∙◌, subst}
+use Rattle.std.proofs.lemmas.List.{append_assoc, append-nil, nil_from_length}
 use Rattle.printouts.specs.Replies.{Outcome, Reply, Replies, reply_text}
 use Rattle.printouts.specs.Printouts.{lines, Prints}
 
@@ -22,8 +22,4 @@ module _ {S : Type 0} (does : S → ℕ → List ℕ → Outcome → S → Type 
   finish e =
       let P : List (List ℕ) → Type 0 = λ ls. Prints does s ls [] s in
       let Q : List ℕ → Type 0 = λ x. Prints does start (lines text) x s in
-      subst Q (append-nil out) (waits [] s (subst P (sym (no_lines rest e)) (refl, refl)))
-    where
-      no_lines : (x : List ℕ) → length x ≡ 0 → lines x ≡ []
-      no_lines [] h = refl
-      no_lines (b ∷ bs) h = absurd (omega arith)
+      subst Q (append-nil out) (waits [] s (subst P (sym (ap lines (nil_from_length rest e))) (refl, refl)))

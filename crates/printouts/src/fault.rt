@@ -3,6 +3,7 @@ ghost use Rattle.printouts.specs.declared.fault.LineFault.TheVariants.{Number, S
 ghost use Rattle.printouts.specs.Faults.{number_fault_number, number_fault_detail, line_fault_number, line_fault_detail, fault_text};
 
 use engines::SheetFault;
+use std::fmt;
 
 // Why there is no number at a place of a line, counted from 1.
 #[derive(Clone, Copy, PartialEq, Eq, Debug)]
@@ -56,8 +57,7 @@ impl NumberFault {
         ensures { result ≡ number_fault_detail self }
     {
         match self {
-            NumberFault::Shape(place) => place,
-            NumberFault::Wide(place) => place,
+            NumberFault::Shape(place) | NumberFault::Wide(place) => place,
         }
     }
 }
@@ -83,5 +83,15 @@ impl LineFault {
             LineFault::Number(fault) => fault.detail(),
             LineFault::Sheet(fault) => usize::from(fault.detail()),
         }
+    }
+}
+
+impl fmt::Display for LineFault {
+    ghost output = { λ f. Some (fault_text f) };
+
+    fn fmt<W: fmt::Write>(&self, f: &mut fmt::Formatter<W>) -> fmt::Result {
+        let number = self.number();
+        let detail = self.detail();
+        write!(f, "no {number} {detail}")
     }
 }

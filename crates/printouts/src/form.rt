@@ -7,6 +7,7 @@ ghost use Rattle.printouts.specs.Numerals.{Bounds};
 use crate::fault::{LineFault, NumberFault};
 use crate::line::Line;
 use crate::number::read_number;
+use rows::Row;
 
 // Reads a line, without the byte that ends it.
 pub fn read_line(text: &[u8]) -> Result<Line, LineFault>
@@ -38,29 +39,31 @@ fn read_numbers(letter: char, least: usize, most: usize, text: &[u8]) -> Result<
     requires { Bounds letter least most × (most ≤ 9) }
     ensures { MatchResult result (λ l. (l.letter ≡ letter) × Says (letter ∷ text.now) letter (line_numbers l)) (λ f. Misread (letter ∷ text.now) (line_fault_number f) (line_fault_detail f)) }
 {
-    let mut cells = [0u16; 9];
-    let mut len = 0usize;
+    let mut numbers = Row::none();
     let mut fits: Result<(), NumberFault> = Ok(());
-    let mut at = 1usize;
     let mut rest = text;
-    while len < most
+    while numbers.len() < most
         && let [b' ', more @ ..] = rest
     {
-        let (value, next) = read_number(more, at + 2)?;
-        if value <= 65535 {
-            cells[len] = value as u16;
-        } else if fits.is_ok() {
-            fits = Err(NumberFault::Wide(at + 2));
-        }
-        len += 1;
-        at += 1 + (more.len() - next.len());
+        let place = text.len() - more.len() + 2;
+        let Some((value, next)) = read_number(more) else {
+            return Err(LineFault::Number(NumberFault::Shape(place)));
+        };
+        let number = match u16::try_from(value) {
+            Ok(number) => number,
+            Err(_) => {
+                fits = fits.and(Err(NumberFault::Wide(place)));
+                0
+            }
+        };
+        numbers.push(number);
         rest = next;
     }
-    if !rest.is_empty() || len < least {
-        return Err(LineFault::Form(at + 1));
+    if !rest.is_empty() || numbers.len() < least {
+        return Err(LineFault::Form(text.len() - rest.len() + 2));
     }
     fits?;
-    Ok(Line { letter, cells, len })
+    Ok(Line { letter, numbers })
 }
 
 // A line has one meaning, or one refusal with one detail, and never both.

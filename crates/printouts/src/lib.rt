@@ -9,13 +9,13 @@ pub mod line;
 mod number;
 // reads a line
 pub mod form;
-// what a line is answered
+// what a line is answered, and how that is printed
 pub mod reply;
-// how that is printed
-mod print;
-// makes the call that a line asks for
-mod call;
-// goes over the lines of a text, and prints the record
+// takes the first line off a text
+mod cut;
+// a sheet and its step table: makes the calls that lines ask for
+mod desk;
+// prints the record of a text
 pub mod record;
 
 pub use fault::{LineFault, NumberFault};

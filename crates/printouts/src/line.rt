@@ -1,12 +1,10 @@
-ghost use Rattle.std.specs.Prelude.{◌≤◌};
+use rows::Row;
 
-// A line that was read. Its numbers are the first `len` cells.
+// A line that was read.
 #[derive(Clone, Copy)]
 pub struct Line {
     pub(crate) letter: char,
-    pub(crate) cells: [u16; 9],
-    pub(crate) len: usize,
-    ghost few: { len ≤ 9 },
+    pub(crate) numbers: Row<9>,
 }
 
 pub mod calls;

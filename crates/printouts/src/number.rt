@@ -1,18 +1,15 @@
-ghost use Rattle.std.specs.Prelude.{◌≡◌, ◌+◌, ◌<◌, ◌≤◌, length, IfOk, MatchResult, slice_index};
-ghost use Rattle.printouts.specs.declared.fault.NumberFault.TheVariants.{Shape};
+ghost use Rattle.std.specs.Prelude.{◌+◌, ◌<◌, ◌≤◌, length, IfSome, MatchOption, slice_index};
 ghost use Rattle.printouts.specs.Numerals.{Longest, Took, Bare};
 
-use crate::fault::NumberFault;
-
-// The number at the start of a text, and what follows it. `at` is its place in the line.
-pub(crate) fn read_number(text: &[u8], at: usize) -> Result<(u32, &[u8]), NumberFault>
-    ensures reads { MatchResult result (λ x. Took text.now x.0 x.1.now) (λ e. (e ≡ Shape at) × Bare text.now) }
-    ensures lens { IfOk result (λ x. (length x.1.now < length text.now) × (length text.now ≤ length x.1.now + 5)) }
+// The number at the start of a text, and what follows it.
+pub(crate) fn read_number(text: &[u8]) -> Option<(u32, &[u8])>
+    ensures reads { MatchOption result (Bare text.now) (λ x. Took text.now x.0 x.1.now) }
+    ensures lens { IfSome result (λ x. (length x.1.now < length text.now) × (length text.now ≤ length x.1.now + 5)) }
 {
     match text {
-        [b'0', ..] => Ok(read_digits(text, 1)),
-        [b'1'..=b'9', ..] => Ok(read_digits(text, 5)),
-        _ => Err(NumberFault::Shape(at)),
+        [b'0', ..] => Some(read_digits(text, 1)),
+        [b'1'..=b'9', ..] => Some(read_digits(text, 5)),
+        _ => None,
     }
 }
 

@@ -1,30 +1,14 @@
-ghost use Rattle.std.specs.Prelude.{◌≡◌, ◌<◌, ◌∷◌, length, IfOk};
-ghost use Rattle.engines.specs.Content.{content};
-ghost use Rattle.engines.specs.Whole.{Whole};
-ghost use Rattle.printouts.specs.Replies.{Did};
-ghost use Rattle.printouts.specs.Printouts.{lines, Prints, Printout, OneRecord};
+ghost use Rattle.std.specs.Prelude.{string_bytes, IfOk};
+ghost use Rattle.printouts.specs.Printouts.{Printout, OneRecord};
 
-use crate::call::answer_line;
-use crate::print::{put_one, say};
-use engines::{Open, Step};
+use crate::desk::Desk;
 use indexes::Index;
 use keepers::Keeper;
 use std::alloc::{AllocError, Global};
+use std::fmt::Write;
 
 // The longest text, in bytes.
 const LONGEST: usize = 65536;
-
-// The cells of the step table.
-const CELLS: usize = 1024;
-
-// A cell that no chain has used.
-const BLANK: Step = Step {
-    kind: 0,
-    left: 0,
-    right: 0,
-    entry: 0,
-    next: 0,
-};
 
 // The record of a list, made on a sheet that is put together from a keeper and an index: a line for each line of the text, and the number of classes.
 pub fn print_record<K: Keeper + Drop, I: Index + Drop>(
@@ -32,54 +16,17 @@ pub fn print_record<K: Keeper + Drop, I: Index + Drop>(
     keeper: K,
     index: I,
     text: &[u8],
-) -> Result<Vec<u8>, AllocError>
-    ensures { IfOk result (λ s. Printout K.Keeper.limit text.now s.items) }
+) -> Result<String, AllocError>
+    ensures { IfOk result (λ s. Printout K.Keeper.limit text.now (string_bytes s)) }
 {
     if text.len() > LONGEST {
-        return b"no 9 0\n".to_vec(heap);
+        return String::from_str(heap, "no 9 0\n");
     }
-    let mut sheet = Open::new(heap, keeper, index)?;
-    let mut table = vec![in heap; BLANK; CELLS]?;
-    let mut out = answer_lines(heap, &mut sheet, table.as_mut_slice(), text)?;
-    put_one(&mut out, b"classes ", sheet.classes() as usize)?;
+    let mut desk = Desk::new(heap, keeper, index)?;
+    let mut out = desk.answer_lines(heap, text)?;
+    let classes = desk.sheet.classes();
+    writeln!(out, "classes {classes}")?;
     Ok(out)
-}
-
-// The lines of the record: one for each line of the text.
-fn answer_lines<K: Keeper, I: Index>(
-    heap: Global,
-    sheet: &mut Open<K, I>,
-    table: &mut [Step],
-    text: &[u8],
-) -> Result<Vec<u8>, AllocError>
-    requires whole { Whole K.Keeper I.Index sheet.old }
-    requires cells { length table.old ≡ 1024 }
-    ensures whole { Whole K.Keeper I.Index sheet.new }
-    ensures prints { IfOk result (λ s. Prints (Did K.Keeper.limit) (content sheet.old) (lines text.now) s.items (content sheet.new)) }
-{
-    let mut out = Vec::new(heap);
-    let mut rest = text;
-    while !rest.is_empty() {
-        let (line, next) = cut_line(rest);
-        let reply = answer_line(sheet, table, line);
-        say(&mut out, reply)?;
-        rest = next;
-    }
-    Ok(out)
-}
-
-// The first line of a text, without the byte that ends it, and what follows.
-fn cut_line(text: &[u8]) -> (&[u8], &[u8])
-    requires { 0 < length text.now }
-    ensures lines { lines text.now ≡ result.0.now ∷ lines result.1.now }
-    ensures less { length result.1.now < length text.now }
-{
-    for (i, b) in text.iter().enumerate() {
-        if *b == b'\n' {
-            return (&text[..i], &text[i + 1..]);
-        }
-    }
-    (text, &text[text.len()..])
 }
 
 // A text has at most one record, for each capacity of the keeper: the definitions leave no byte of it free.

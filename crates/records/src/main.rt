@@ -1,9 +1,9 @@
 // Prints the record of each list that is named on the command line, made with one keeper and one index, and whether the other keepers and indexes make
-// the same. Says so too where the crate lists makes another.
+// the same.
 #![tactic(auto)]
 
-use indexes::{Chained, Plain};
-use keepers::{Links, Relabel};
+use indexes::{Chained, Index, Plain};
+use keepers::{Keeper, Links, Relabel};
 use printouts::print_record;
 use std::{env, fs};
 
@@ -21,27 +21,54 @@ fn show(rt: &HostRuntime, name: &str) -> anyhow::Result<()> {
     let text = list.as_slice();
     let record = print_record(heap, Links::new(heap)?, Chained::new(heap)?, text)?;
     println!(rt; "== {name}")?;
-    rt.write_all(record.as_slice())?;
-    let other = print_record(heap, Links::new(heap)?, Plain::new(heap)?, text)?;
-    compare(rt, "parent links and the plain list", &record, &other)?;
-    let other = print_record(heap, Relabel::new(heap)?, Chained::new(heap)?, text)?;
-    compare(rt, "relabelling and the chained index", &record, &other)?;
-    let other = print_record(heap, Relabel::new(heap)?, Plain::new(heap)?, text)?;
-    compare(rt, "relabelling and the plain list", &record, &other)?;
-    let other = lists::print_record(heap, Links::new(heap)?, Chained::new(heap)?, text)?;
-    if record.as_slice() != other.as_bytes() {
-        println!(rt; "-- the record of the crate lists: ANOTHER")?;
-    }
-    Ok(())
+    rt.write_all(record.as_bytes())?;
+    let compare = Compare {
+        text,
+        record: record.as_str(),
+    };
+    compare.with(
+        rt,
+        "parent links and the plain list",
+        Links::new(heap)?,
+        Plain::new(heap)?,
+    )?;
+    compare.with(
+        rt,
+        "relabelling and the chained index",
+        Relabel::new(heap)?,
+        Chained::new(heap)?,
+    )?;
+    compare.with(
+        rt,
+        "relabelling and the plain list",
+        Relabel::new(heap)?,
+        Plain::new(heap)?,
+    )
 }
 
-// Says whether two records are the same.
-fn compare(rt: &HostRuntime, parts: &str, record: &[u8], other: &[u8]) -> anyhow::Result<()> {
-    let verdict = if record == other {
-        "the same"
-    } else {
-        "ANOTHER"
-    };
-    println!(rt; "-- {parts}: {verdict}")?;
-    Ok(())
+// A list and its record.
+#[derive(Drop)]
+struct Compare<'a> {
+    text: &'a [u8],
+    record: &'a str,
+}
+
+impl Compare<'_> {
+    // Says whether the record that other parts make is the same.
+    fn with<K: Keeper + Drop, I: Index + Drop>(
+        &self,
+        rt: &HostRuntime,
+        parts: &str,
+        keeper: K,
+        index: I,
+    ) -> anyhow::Result<()> {
+        let other = print_record(rt.alloc(), keeper, index, self.text)?;
+        let verdict = if self.record == other.as_str() {
+            "the same"
+        } else {
+            "ANOTHER"
+        };
+        println!(rt; "-- {parts}: {verdict}")?;
+        Ok(())
+    }
 }

@@ -16,6 +16,6 @@ fn main(rt: HostRuntime) -> anyhow::Result<()> {
         Chained::new(heap)?,
         text.as_slice(),
     )?;
-    rt.write_all(out.as_slice())?;
+    rt.write_all(out.as_bytes())?;
     Ok(())
 }

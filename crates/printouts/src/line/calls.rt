@@ -15,6 +15,6 @@ impl Line {
     pub fn numbers(&self) -> &[u16]
         ensures { result.now ≡ line_numbers self.now }
     {
-        &self.cells[0..self.len]
+        self.numbers.as_slice()
     }
 }
