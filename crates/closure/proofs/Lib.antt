@@ -1,4 +1,0 @@
-pub mod Rows
-pub mod Inwards
-pub mod Counts
-pub mod Growing

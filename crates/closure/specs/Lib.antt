@@ -1,2 +1,0 @@
-pub mod Working
-pub mod Sights

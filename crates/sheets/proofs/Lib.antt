@@ -1,3 +1,0 @@
-mod Numbers
-mod Placing
-mod Writing

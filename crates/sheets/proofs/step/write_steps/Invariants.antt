@@ -1,5 +1,0 @@
-use Rattle.sheets.specs.Table.{Listed}
-use Rattle.sheets.proofs.step.write_steps.Given as goal
-
-abbrev pub invariant-loop-i : goal.invariant-loop-i
-invariant-loop-i l = Listed l.joins l.initial.table l.table l.i
