@@ -1,14 +1,12 @@
 -- One turn of a look at the pictures that wait, and one turn of withdrawing. Assumes nothing.
-use Rattle.std.proofs.Common.{◌≡◌, ℕ, ◌+◌, ◌-◌, ◌<◌, ◌≤◌, Bool, true, false, cond, List, [], map, length, get_or, set, is_ok, Some, None, Ok, Err, Option, Result, sym, ap, ◌∙◌, subst, subst₂, inl, inr, ⊎_elim, add-one, arith}
+use Rattle.std.proofs.Common.{◌≡◌, ℕ, ◌+◌, ◌-◌, ◌<◌, ◌≤◌, Bool, true, false, List, [], map, length, get_or, set, Some, None, Option, sym, ap, ◌∙◌, subst, subst₂, inl, inr, ⊎_elim, add-one, arith}
 use Rattle.std.proofs.Math.Seq.{map-set_same}
 use Rattle.std.proofs.lemmas.Bool.{cases_eq, both_ways}
 use Rattle.std.proofs.lemmas.List.{length-map, get_or-map, set-get_or}
 use Rattle.theory.specs.Sheet.{Picture, blank, picture, On, operation}
 use Rattle.keepers.specs.Meaning.{Upto, rep, moved}
 use Rattle.rows.specs.Row.{cells_of}
-use Rattle.indexes.specs.Meaning.{Lead, held, apart, leading, refused, enter_fault}
-use Rattle.indexes.specs.declared.index.IndexFault.{IndexFault}
-use Rattle.indexes.specs.Refusing.{taken_new}
+use Rattle.indexes.specs.Meaning.{Lead, held, apart, leading}
 use Rattle.congruence.specs.declared.picture.Picture.{Picture as Held}
 use Rattle.congruence.specs.Drawn.{drawn, sheet}
 use Rattle.congruence.specs.Working.{Ready, Inward}
@@ -35,13 +33,6 @@ put_back ps i h new is e = ap (set ps i) (e ∙ is) ∙ set-get_or ps i h
 -- a picture of which other things are noted
 pub sheet_set : (ps : List Held) (i : ℕ) (h new : Held) → h ≡ get_or ps i h → drawn new ≡ drawn h → sheet (set ps i new) ≡ sheet ps
 sheet_set ps i h new is e = map-set_same drawn ps i new h (e ∙ ap drawn is)
-
--- enter with room
-pub entered : {X : Type 0} (es : List Lead) (m' : ℕ → List ℕ → Option ℕ) (o p : ℕ) (v w : List ℕ) (r : Result X IndexFault) → v ≡ w → length v ≤ 4 → length es < 1024 →
-    refused r ≡ enter_fault es o v → ((q : ℕ) (u : List ℕ) → m' q u ≡ cond (is_ok r) (leading (held es) o v (Some p) q u) (held es q u)) →
-    (q : ℕ) (u : List ℕ) → m' q u ≡ leading (held es) o w (Some p) q u
-entered es m' o p v w (Ok x) e s l a h q u = h q u ∙ ap (λ (t : List ℕ). leading (held es) o t (Some p) q u) e
-entered es m' o p v w (Err f) e s l a h q u = let n = taken_new es o v s l in let z : ◌≡◌ {A = ℕ} 0 1 = cc in absurd (omega arith)
 
 -- A PICTURE THAT WAITS
 module _ (ps : List Held) (rs : List ℕ) (es : List Lead) (i : ℕ) (h : Held)

@@ -1,8 +1,6 @@
 use Rattle.std.proofs.Common.{get_or, ap, arith}
-use Rattle.std.proofs.lemmas.List.{length-map}
 use Rattle.indexes.specs.Meaning.{held}
 use Rattle.congruence.specs.declared.picture.Picture.{Picture as Held}
-use Rattle.congruence.specs.Drawn.{drawn}
 use Rattle.congruence.proofs.Sweeps.{walked_on}
 use Rattle.congruence.proofs.congruence.merging.withdraw_all.Goals as goal
 
@@ -12,13 +10,3 @@ loop-picture-preserved g c =
     walked_on c.args.lost c.args.heir l.picture-index c.args.pictures.now l.picture-items
     (held (g.I.Index.leads c.args.index.now)) (held (g.I.Index.leads l.index)) (held (g.I.Index.leads c.withdraw.new.index))
     (get_or l.picture-items l.picture-index c.picture-item.result) c.withdraw.new.picture l.invariant (omega arith) (ap (λ (d : Held). get_or l.picture-items l.picture-index d) c.picture-item.is) c.withdraw.ensures
-
-pub returns : goal.returns
-returns g c =
-    let w = c.loop-picture.invariant in
-    record {
-      sheet = w.same;
-      inward = w.inward;
-      rows = λ p o. w.done p o.0 (omega (arith, o.1, length-map c.args.pictures.now drawn, c.loop-picture-test.false));
-      posted = w.posted;
-    }

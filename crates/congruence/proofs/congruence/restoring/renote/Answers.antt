@@ -1,10 +1,8 @@
 use Rattle.std.proofs.Common.{ℕ, true, List, map, length, get_or, All, sym, refl, ap, ◌∙◌, subst, arith}
 use Rattle.std.proofs.lemmas.List.Elements.{All-get_or}
-use Rattle.std.proofs.lemmas.List.{length-map}
 use Rattle.keepers.specs.Meaning.{rep, Upto}
 use Rattle.rows.specs.Row.{cells_of}
 use Rattle.congruence.specs.declared.picture.Picture.{Picture as Held}
-use Rattle.congruence.specs.Drawn.{drawn}
 use Rattle.congruence.specs.Working.{Fed}
 use Rattle.congruence.proofs.Tiers.{counted_again}
 use Rattle.congruence.proofs.Replays.{renoted_more}
@@ -28,15 +26,4 @@ loop-picture-preserved g c =
       same = c.roots-picture.ensures.same ∙ l.invariant.same;
       renoted = renoted_more c.args.pictures.now l.picture-items f l.picture-index old new l.invariant.renoted (omega arith) (ap (λ (d : Held). get_or l.picture-items l.picture-index d) c.picture-item.is) refl
           (c.roots-picture.ensures.answer ∙ ap (λ (ts : List ℕ). map (rep ts) (cells_of old.inputs)) l.invariant.same) refl;
-    }
-
-pub returns : goal.returns
-returns g c =
-    let w = c.loop-picture.invariant.renoted in
-    let n = length-map c.args.pictures.now drawn in
-    record {
-      same = c.loop-picture.invariant.same;
-      sheet = w.same;
-      rows = λ p o. w.rows p o.0 (omega (arith, o.1, n, c.loop-picture-test.false));
-      waits = λ p o. w.late p o.0 (omega (arith, o.1, n, c.loop-picture-test.false));
     }

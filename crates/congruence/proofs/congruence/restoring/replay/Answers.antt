@@ -1,5 +1,5 @@
-use Rattle.std.proofs.Common.{◌≡◌, ℕ, ◌≤◌, Ok, Err, Result, List, length, get_or, sym, ap, ◌∙◌, subst, arith}
-use Rattle.std.proofs.lemmas.List.{length-map, take_all, get_or_default}
+use Rattle.std.proofs.Common.{◌≡◌, ℕ, ◌≤◌, Ok, Err, Result, List, length, get_or, sym, ap, ◌∙◌, arith}
+use Rattle.std.proofs.lemmas.List.{length-map, get_or_default}
 use Rattle.std.proofs.lemmas.List.FromFn.{length-range_with_len}
 use Rattle.std.specs.List.{range_with_len}
 use Rattle.keepers.specs.declared.keeper.KeeperFault.{KeeperFault}
@@ -7,8 +7,7 @@ use Rattle.keepers.specs.Counting.{Populated}
 use Rattle.congruence.specs.declared.journal.Join.{Join}
 use Rattle.congruence.specs.declared.journal.Cause.TheVariants.{Entry}
 use Rattle.congruence.specs.Drawn.{drawn, sheet}
-use Rattle.congruence.specs.Working.{Books}
-use Rattle.congruence.proofs.Replays.{books_none, replay_apart, replay_more}
+use Rattle.congruence.proofs.Replays.{books_none, replay_more}
 use Rattle.congruence.proofs.congruence.restoring.replay.Goals as goal
 
 -- the join at place i of a journal
@@ -26,15 +25,6 @@ loop-join-init g c =
     let e = populated g.K.Keeper.limit (length ps) _ c.populate.result c.requires.limit c.populate.ensures ∙ ap (range_with_len 1) (sym (length-map ps drawn)) in
     record { counted = ap length e ∙ length-range_with_len 1 (length (sheet ps)); books = books_none (sheet ps) _ e }
 
-pub unite-requires : goal.unite-requires
-unite-requires g c =
-    let P = sheet c.args.pictures.now in
-    let J = c.args.journal.now in
-    let i = c.loop-join.join-index in
-    let v = c.loop-join.invariant in
-    let a = replay_apart P J (g.K.Keeper.reps c.loop-join.k) i (at J i) v.counted v.books c.requires.placed c.requires.fresh c.loop-join-test.true (get_or_default J i _ _ c.loop-join-test.true) in
-    record { on = (a.left_on, a.right_on); apart = a.apart }
-
 pub loop-join-preserved : goal.loop-join-preserved
 loop-join-preserved g c =
     let J = c.args.journal.now in
@@ -43,13 +33,3 @@ loop-join-preserved g c =
     let k = replay_more (sheet c.args.pictures.now) J (g.K.Keeper.reps c.loop-join.k) i (at J i) v.counted v.books
     c.requires.placed c.requires.fresh c.loop-join-test.true (get_or_default J i _ _ c.loop-join-test.true) (g.K.Keeper.reps c.unite.new.k) c.unite.ensures in
     record { counted = k.0; books = k.1 }
-
-pub returns : goal.returns
-returns g c =
-    let ps = c.args.pictures.now in
-    let J = c.args.journal.now in
-    let v = c.loop-join.invariant in
-    record {
-      counted = record { counted = v.counted ∙ length-map ps drawn; few = c.requires.counted.few; fed = c.requires.counted.fed };
-      books = subst (Books (g.K.Keeper.reps c.loop-join.k) (sheet ps)) (take_all c.loop-join.join-index J (omega arith)) v.books;
-    }
