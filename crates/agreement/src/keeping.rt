@@ -12,7 +12,7 @@ enum Call {
     Classes,
 }
 
-// What a call answers, as a number: a refusal by 100 and its number.
+// What a call answers, as a number, so that one table of expected numbers serves every keeper: a refusal by 100 and its number.
 fn answer<K: Keeper>(k: &mut K, call: Call) -> u16 {
     let answered = match call {
         Call::Reset => {

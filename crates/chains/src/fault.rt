@@ -1,4 +1,4 @@
-// Why a call on a chain is refused. A refused call changes nothing.
+// Why a call that builds a chain is refused, or what a walk finds wrong with one. A refused call changes nothing.
 #[derive(Clone, Copy, PartialEq, Eq, Debug)]
 pub enum ChainFault {
     // a cell is not in the table

@@ -1,6 +1,7 @@
 ghost use Rattle.std.specs.Prelude.{◌≡◌, ℕ};
 
-// A record that has the number of the next cell of its chain, 0 where it is the last.
+// A record that has the number of the next cell of its chain, 0 where it is the last: the rules number cells from 1 and let 0 end a chain, since a host
+// reads them.
 pub trait Linked {
     // the number of the next cell
     ghost after: { Self → ℕ };

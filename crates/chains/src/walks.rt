@@ -24,7 +24,7 @@ pub struct Found {
 }
 
 // Walks from head on, and looks at no more cells than there are. Answers the first cell whose record passes the test, or none where the chain ends
-// before; refused where the chain leaves the table or does not end.
+// before, or that it is broken: it leaves the table or does not end.
 pub fn walk<R: Linked, T: Test<R>>(
     cells: &[R],
     head: u16,

@@ -38,7 +38,8 @@ pub fn roots<K: Keeper>(k: &mut K, row: &Row) -> Row
     roots
 }
 
-// The lowest number in the class of a picture.
+// The lowest number in the class of a picture. In place of the loop a chain of iterators would call a closure that changes the keeper, and of what such a
+// closure answers a proof knows nothing; so it is below.
 pub fn lowest<K: Keeper>(k: &mut K, p: u16) -> u16
     requires { Within (K.reps k.old) p }
     ensures answer { Lowest (K.reps k.old) p result }

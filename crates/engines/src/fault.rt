@@ -41,7 +41,7 @@ impl From<KeeperFault> for SheetFault {
 }
 
 impl SheetFault {
-    // The number of the refusal.
+    // The number of the refusal. It is matched, since a variant that holds a value has no discriminant to cast.
     pub fn number(self) -> u8
         ensures { result ≡ number (refusal_of self) }
     {

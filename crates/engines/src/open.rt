@@ -7,7 +7,8 @@ use keepers::{Keeper, Links};
 use reasons::Explainer;
 
 // A sheet that can be told pictures and entries: its pictures with their classes, its entries, and what tells reason chains from its joins. All memory
-// is taken when the sheet is put together.
+// is taken when the sheet is put together. What ties keeper and index to the entries stands in the record `Whole`, and not in ghost fields: in a struct
+// that owns memory they cannot name what a bound's trait says.
 #[derive(Drop)]
 pub struct Open<K: Keeper, I: Index> {
     congruence: Congruence<K, I>,

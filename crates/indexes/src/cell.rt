@@ -40,7 +40,8 @@ impl Test<Cell> for Signature {
     ghost passes = { λ s c. bears_at c s.op (cells_of s.row) };
 
     fn test(&self, c: &Cell) -> bool {
-        c.body.is_some_and(|r| r.bears(self))
+        c.body
+            .is_some_and(|r| r.bears(self.op, self.row.as_slice()))
     }
 }
 

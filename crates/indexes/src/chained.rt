@@ -5,7 +5,8 @@ ghost use Rattle.indexes.specs.Buckets.{link_of, bucket_of, leads_of, SortedOut}
 use super::cell::Cell;
 
 // The index whose records are chained by a next index: each of 1,024 buckets has a chain of the used cells whose
-// signatures hash to it, and the chain of bucket 0 has the free cells.
+// signatures hash to it, and the chain of bucket 0 has the free cells. The rules want this index of linked records, and no call may allocate, so it is
+// no map of the library.
 #[derive(Drop)]
 pub struct Chained {
     heads: Vec<u16>,

@@ -9,9 +9,9 @@ pub const LIMIT: usize = 1024;
 #[derive(Clone, Copy, PartialEq, Eq, Debug)]
 pub enum IndexFault {
     // more than four inputs
-    Inputs,
+    Inputs = 5,
     // 1,024 others are held, and this one is not
-    Full,
+    Full = 3,
 }
 
 impl IndexFault {
@@ -19,10 +19,7 @@ impl IndexFault {
     pub fn number(self) -> u8
         ensures { result ≡ fault_number self }
     {
-        match self {
-            IndexFault::Inputs => 5,
-            IndexFault::Full => 3,
-        }
+        self as u8
     }
 }
 

@@ -20,10 +20,10 @@ impl Record {
     }
 
     // Whether the record has this signature.
-    pub fn bears(&self, s: &Signature) -> bool
-        ensures { result ≡ same_signature (lead_of self.now).op (lead_of self.now).row s.now.op (cells_of s.now.row) }
+    pub fn bears(&self, op: u16, row: &[u16]) -> bool
+        ensures { result ≡ same_signature (lead_of self.now).op (lead_of self.now).row op row.now }
     {
-        self.signature.op == s.op && self.signature.row.as_slice() == s.row.as_slice()
+        self.signature.op == op && self.signature.row.as_slice() == row
     }
 
     // Makes its signature lead to another picture.

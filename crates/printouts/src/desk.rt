@@ -20,15 +20,6 @@ use std::alloc::{AllocError, Global};
 // The cells of the step table.
 const CELLS: usize = 1024;
 
-// A cell that no chain has used.
-const BLANK: Step = Step {
-    kind: 0,
-    left: 0,
-    right: 0,
-    entry: 0,
-    next: 0,
-};
-
 // A sheet, and the step table that it is lent.
 #[derive(Drop)]
 pub(crate) struct Desk<K: Keeper, I: Index> {
@@ -44,7 +35,7 @@ impl<K: Keeper + Drop, I: Index + Drop> Desk<K, I> {
         ensures empty { IfOk result (λ d. content d.sheet ≡ empty) }
     {
         let sheet = Open::new(heap, keeper, index)?;
-        let table = vec![in heap; BLANK; CELLS]?;
+        let table = vec![in heap; Step::default(); CELLS]?;
         Ok(Desk { sheet, table })
     }
 }

@@ -42,7 +42,7 @@ impl From<SheetFault> for LineFault {
 }
 
 impl NumberFault {
-    // The number of the refusal.
+    // The number of the refusal. It is matched, since a variant that holds a value has no discriminant to cast.
     pub fn number(self) -> u8
         ensures { result ≡ number_fault_number self }
     {

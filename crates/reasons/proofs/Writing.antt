@@ -1,5 +1,5 @@
 -- Marked joins written into the table, and what the table then tells. Assumes nothing.
-use Rattle.std.proofs.Common.{◌≡◌, ℕ, zero, suc, ◌+◌, ◌-◌, ◌<◌, ◌≤◌, ltb, List, [], ◌∷◌, map, length, get_or, set, All, inl, inr, sym, refl, ap, ◌∙◌, subst, subst₂, arith, get_or-set_other, get_or-set_same}
+use Rattle.std.proofs.Common.{◌≡◌, ℕ, zero, suc, ◌+◌, ◌<◌, ◌≤◌, ltb, List, [], ◌∷◌, map, length, get_or, set, All, inl, inr, sym, refl, ap, ◌∙◌, subst, subst₂, arith, get_or-set_other, get_or-set_same}
 use native.Mathlib.Decide.{ℕ_discrete, dec_le}
 use Rattle.std.specs.List.{range_with_len}
 use Rattle.std.proofs.lemmas.List.Elements.{All-nil, All-cons}
@@ -13,7 +13,7 @@ use Rattle.congruence.specs.declared.journal.Cause.TheVariants.{Entry as Numbere
 use Rattle.congruence.specs.declared.journal.Join.{Join}
 use Rattle.congruence.specs.Drawn.{reason, reason_of}
 use Rattle.reasons.specs.declared.step.Step.{Step}
-use Rattle.reasons.specs.Table.{Names, Along, Rest, Chained, Listed, Laid, occurs, empty_cell, cell_by, cell_of}
+use Rattle.reasons.specs.Table.{Names, Along, Chained, Listed, Laid, occurs, empty_cell, cell_by, cell_of}
 
 -- the step with another next
 abbrev pub led : Step → ℕ → Step

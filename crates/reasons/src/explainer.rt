@@ -17,7 +17,7 @@ struct Pair {
 pub struct Explainer<S: Keeper> {
     scratch: S,
     forest: Forest,
-    // whether each join of the journal is needed
+    // whether each join of the journal is needed, beside it, since the journal is the sheet's
     marks: Vec<bool>,
     todo: Vec<Pair>,
     // the joins that were marked, in order

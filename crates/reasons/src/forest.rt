@@ -27,7 +27,7 @@ pub struct Node {
     pub hook: Option<Hook>,
 }
 
-// Pictures in trees: the node of picture p is at place p, and place 0 is not used.
+// Pictures in trees: the node of picture p is at place p, and place 0 is not used. No call allocates, so nodes are named by number and are not boxed.
 #[derive(Drop)]
 pub struct Trees {
     nodes: Vec<Node>,

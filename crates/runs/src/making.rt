@@ -30,7 +30,7 @@ pub(crate) fn make_call<K: Keeper, I: Index>(
 
 // Makes one call on an open sheet.
 fn call_open<K: Keeper, I: Index>(
-    sheet: Open<K, I>,
+    mut sheet: Open<K, I>,
     table: &mut [Step],
     call: &Call,
 ) -> (State<K, I>, Option<Reply>)
@@ -38,7 +38,6 @@ fn call_open<K: Keeper, I: Index>(
     ensures whole { WholeState K.Keeper I.Index result.0 }
     ensures goes { GoesOn K.Keeper.limit (content sheet) (call_of (length table.old) call.now) result.1 (state_content result.0) }
 {
-    let mut sheet = sheet;
     match call {
         Call::Add { op, inputs } => {
             let answer = sheet.add(*op, inputs.as_slice()).map(Answer::Added);
@@ -74,7 +73,7 @@ fn call_open<K: Keeper, I: Index>(
 
 // Makes one call on a locked sheet.
 fn call_locked<K: Keeper, I: Index>(
-    sheet: Locked<K, I>,
+    mut sheet: Locked<K, I>,
     table: &mut [Step],
     call: &Call,
 ) -> (State<K, I>, Option<Reply>)
@@ -82,7 +81,6 @@ fn call_locked<K: Keeper, I: Index>(
     ensures whole { WholeState K.Keeper I.Index result.0 }
     ensures goes { GoesOn K.Keeper.limit (locked_content sheet) (call_of (length table.old) call.now) result.1 (state_content result.0) }
 {
-    let mut sheet = sheet;
     match call {
         Call::Must { a, b } => {
             let answer = sheet.must(*a, *b).map(Answer::Told);

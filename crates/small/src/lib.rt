@@ -1,4 +1,5 @@
-// A class keeper for sixteen pictures that lies in one array: an example of a keeper of your own.
+// A class keeper for sixteen pictures that lies in one array: an example of a keeper of your own. Its calls are written out, though those of `Relabel` are
+// like them, so that it can be read alone.
 #![tactic(auto)]
 
 ghost use Rattle.std.specs.Prelude.{◌≡◌, []};

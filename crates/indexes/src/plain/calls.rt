@@ -2,7 +2,7 @@ ghost use Rattle.std.specs.Prelude.{◌≡◌, [], map, IfOk, None, MatchOption}
 ghost use Rattle.rows.specs.Row.{cells_of};
 ghost use Rattle.indexes.specs.Meaning.{held};
 ghost use Rattle.indexes.specs.Records.{lead_of, Stands};
-ghost use Rattle.std.proofs.Common.{arith, rules};
+ghost use Rattle.std.proofs.Common.{arith};
 ghost use Rattle.std.proofs.lemmas.List.{length-map};
 
 use super::Plain;
@@ -24,7 +24,9 @@ impl Plain {
     fn place(&self, s: &Signature) -> Option<usize>
         ensures { MatchOption result (held (map lead_of self.now.records.items) s.now.op (cells_of s.now.row) ≡ None) (λ i. Stands (map lead_of self.now.records.items) s.now.op (cells_of s.now.row) i) }
     {
-        self.records.iter().position(|r| r.bears(s))
+        self.records
+            .iter()
+            .position(|r| r.bears(s.op, s.row.as_slice()))
     }
 }
 

@@ -69,9 +69,21 @@ impl Trees {
             far: join.right,
         };
         let (lost, hook) = if self.node(left).size < self.node(right).size {
-            (left, Hook { above: right, bridge })
+            (
+                left,
+                Hook {
+                    above: right,
+                    bridge,
+                },
+            )
         } else {
-            (right, Hook { above: left, bridge: bridge.turned() })
+            (
+                right,
+                Hook {
+                    above: left,
+                    bridge: bridge.turned(),
+                },
+            )
         };
         if left != right {
             self.hang(lost, hook);
@@ -81,7 +93,11 @@ impl Trees {
 
     // Makes a picture a root again, if it was the join at this place that hung it.
     pub fn release(&mut self, picture: u16, place: usize) {
-        let Node { size, hook: Some(hook) } = self.node(picture) else {
+        let Node {
+            size,
+            hook: Some(hook),
+        } = self.node(picture)
+        else {
             return;
         };
         if hook.bridge.place as usize != place {

@@ -17,7 +17,7 @@ loop-x-preserved g c =
     let one : Alike rs c.in-Some.x.now c.in-Some.y.now = subst (λ (r : List ℕ). Alike r c.in-Some.x.now c.in-Some.y.now) same (c.one_class.ensures.answer c.if-not-one_class.false) in (
       c.one_class.ensures.same ∙ same,
       subst (λ (n : ℕ). AllZip (Alike rs) (take n xs) (take n ys)) (sym (length_push c.loop-x.yielded _))
-      (pairs_more (Alike rs) xs ys k at.0 at.1 c.loop-x.invariant.1 (subst₂ (λ (a b : ℕ). Alike rs a b) (at.2 0) (at.3 0) one)),
+          (pairs_more (Alike rs) xs ys k at.0 at.1 c.loop-x.invariant.1 (subst₂ (λ (a b : ℕ). Alike rs a b) (at.2 0) (at.3 0) one)),
     )
 
 pub returns : goal.returns

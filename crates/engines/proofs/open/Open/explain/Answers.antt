@@ -1,8 +1,7 @@
-use Rattle.std.proofs.Common.{List, length, vec_items, ap, refl, subst₂, arith}
-use Rattle.std.proofs.lemmas.List.{length-map}
+use Rattle.std.proofs.Common.{List, length, ap, refl, subst₂, arith}
 use Rattle.congruence.specs.declared.picture.Picture.{Picture as Held}
 use Rattle.congruence.specs.declared.journal.Join.{Join}
-use Rattle.congruence.specs.Drawn.{drawn, sheet, reasons}
+use Rattle.congruence.specs.Drawn.{sheet, reasons}
 use Rattle.reasons.specs.Table.{Explained}
 use Rattle.engines.proofs.open.Open.explain.Goals as goal
 

@@ -1,8 +1,6 @@
-use Rattle.std.proofs.Common.{◌≡◌, false, length, vec_items, sym, refl, ◌∙◌, arith}
-use Rattle.std.proofs.lemmas.List.{length-map}
+use Rattle.std.proofs.Common.{false, sym, refl, arith}
 use Rattle.std.proofs.lemmas.Bool.{both_ways}
 use Rattle.theory.specs.Sheet.{On}
-use Rattle.congruence.specs.Drawn.{drawn}
 use Rattle.engines.specs.Content.{pictures_on, entries_on}
 use Rattle.engines.proofs.Numbers.{present, not_present}
 use Rattle.engines.proofs.Values.{value_decides}

@@ -2,7 +2,7 @@ use Rattle.std.proofs.Common.{refl, vec_items, arith}
 use Rattle.theory.specs.Sheet.{On}
 use Rattle.keepers.specs.Meaning.{rep}
 use Rattle.congruence.proofs.Journals.{within}
-use Rattle.engines.specs.Content.{pictures_on, entries_on, content}
+use Rattle.engines.specs.Content.{pictures_on, content}
 use Rattle.engines.proofs.Alikes.{whole_alike, content_alike}
 use Rattle.engines.proofs.Stopping.{must_answers}
 use Rattle.engines.proofs.open.Open.must.Goals as goal

@@ -1,4 +1,4 @@
-use Rattle.std.proofs.Common.{ℕ, List, [], vec_items, sym, subst, subst₂}
+use Rattle.std.proofs.Common.{List, [], vec_items, sym, subst, subst₂}
 use Rattle.indexes.specs.Meaning.{held}
 use Rattle.congruence.specs.declared.picture.Picture.{Picture as Held}
 use Rattle.congruence.specs.declared.journal.Join.{Join}

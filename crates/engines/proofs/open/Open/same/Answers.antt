@@ -6,9 +6,7 @@ use Rattle.theory.specs.Sheet.{Picture, Entry, Breaks, First}
 use Rattle.theory.specs.Sheet.{same as same-entry}
 use Rattle.theory.specs.Reasons.{Derivation}
 use Rattle.theory.specs.Calls.{Content, Answer, joined, refused, contradiction, Differs}
-use Rattle.keepers.specs.Meaning.{rep}
 use Rattle.indexes.specs.Meaning.{held}
-use Rattle.congruence.specs.declared.picture.Picture.{Picture as Held}
 use Rattle.congruence.specs.declared.journal.Join.{Join}
 use Rattle.congruence.specs.declared.journal.Cause.TheVariants.{Entry as By-entry}
 use Rattle.congruence.specs.Drawn.{drawn, sheet, reasons}

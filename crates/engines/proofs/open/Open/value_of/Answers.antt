@@ -1,7 +1,5 @@
-use Rattle.std.proofs.Common.{◌≡◌, length, vec_items, sym, refl, ◌∙◌, inl, arith}
-use Rattle.std.proofs.lemmas.List.{length-map}
+use Rattle.std.proofs.Common.{sym, refl, inl, arith}
 use Rattle.theory.specs.Sheet.{On}
-use Rattle.congruence.specs.Drawn.{drawn}
 use Rattle.engines.specs.Content.{content, pictures_on}
 use Rattle.engines.proofs.Numbers.{present, not_present}
 use Rattle.engines.proofs.Values.{value_answers}

@@ -1,6 +1,5 @@
-use Rattle.std.proofs.Common.{false, List, vec_items, take, sym, ap, ◌∙◌, ap₂, subst, subst₂}
+use Rattle.std.proofs.Common.{false, List, vec_items, take, sym, ap, ◌∙◌, ap₂, subst}
 use Rattle.theory.specs.Sheet.{Picture, Entry, Ordered}
-use Rattle.congruence.specs.declared.journal.Join.{Join}
 use Rattle.congruence.specs.Working.{Grows, Any}
 use Rattle.congruence.specs.Drawn.{sheet}
 use Rattle.engines.specs.Content.{taken}

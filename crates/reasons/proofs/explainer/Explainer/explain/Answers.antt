@@ -1,4 +1,4 @@
-use Rattle.std.proofs.Common.{◌≡◌, ◌≤◌, Bool, List, length, sym, ap, ◌∙◌, subst, arith}
+use Rattle.std.proofs.Common.{◌≡◌, Bool, List, length, sym, ap, ◌∙◌, subst, arith}
 use Rattle.theory.specs.Slices.{kept}
 use Rattle.congruence.specs.Drawn.{sheet, reasons}
 use Rattle.reasons.specs.Marks.{Chosen}

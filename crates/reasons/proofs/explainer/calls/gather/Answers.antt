@@ -1,4 +1,4 @@
-use Rattle.std.proofs.Common.{rules, ◌+◌, ◌∷◌, [], ◌++◌, length, take, sym, ap, ◌∙◌, arith}
+use Rattle.std.proofs.Common.{rules, ◌∷◌, [], ◌++◌, length, take, sym, ap, ◌∙◌, arith}
 use Rattle.std.proofs.lemmas.List.{length_push}
 use Rattle.std.proofs.lemmas.Slice.Zip.{zip_turn, zip_end}
 use Rattle.theory.specs.Slices.{kept}
@@ -22,7 +22,7 @@ loop-join-preserved-then-marked c =
     let x = c.in-Some.join.now in
     let e = kept_more_yes bs js (length xs) c.in-Some.marked.now x at.1 at.0 (sym (at.3 c.in-Some.marked.now) ∙ c.if-marked.true) in (
       c.push_reserved.ensures.items ∙ ap (λ z. z ++ x ∷ []) c.loop-join.invariant.0 ∙ ap (λ z. kept (take (length xs) bs) (take (length xs) js) ++ z ∷ []) (at.2 x)
-      ∙ sym e ∙ ap (λ n. kept (take n bs) (take n js)) (sym (length_push xs _)),
+          ∙ sym e ∙ ap (λ n. kept (take n bs) (take n js)) (sym (length_push xs _)),
       c.push_reserved.ensures.capacity ∙ c.loop-join.invariant.1,
     )
 
