@@ -1,4 +1,4 @@
-// Tests that every keeper and every index answers one table of calls alike.
+// Tests that every keeper and every index answers one table of calls alike, and that a congruence is put together from any of them.
 #![tactic(auto)]
 
 // the table of calls on keepers
@@ -10,3 +10,6 @@ mod indexing;
 // chains of one more kind of record
 #[cfg(test)]
 mod chaining;
+// a congruence just put together
+#[cfg(test)]
+mod beginning;
