@@ -9,10 +9,10 @@ use keepers::Keeper;
 // bear them; the journal has the joins that made the classes, in order.
 #[derive(Drop)]
 pub struct Congruence<K: Keeper, I: Index> {
-    keeper: K,
-    index: I,
-    pictures: Vec<Picture>,
-    journal: Vec<Join>,
+    pub keeper: K,
+    pub index: I,
+    pub pictures: Vec<Picture>,
+    pub journal: Vec<Join>,
     ghost picture_room: { 1024 ≤ vec_capacity pictures },
     ghost journal_room: { 1024 ≤ vec_capacity journal },
 }

@@ -33,7 +33,9 @@ pub fn roots<K: Keeper>(k: &mut K, row: &Row) -> Row
 {
     let mut roots = Row::none();
     for x in row.as_slice() {
-        roots.push(root(k, *x));
+        let Ok(()) = roots.push(root(k, *x)) else {
+            unreachable!()
+        };
     }
     roots
 }

@@ -1,18 +1,23 @@
 -- Pictures and classes that mean the same, and sheets of them. Assumes nothing.
-use Rattle.std.proofs.Common.{◌≡◌, ℕ, false, vec_items, List, sym, ◌∙◌, ap₂, subst, subst₂, ◌≤◌, length, take, All, arith}
+use Rattle.std.proofs.Common.{◌≡◌, ℕ, false, vec_items, List, sym, ◌∙◌, ap₂, subst, subst₂, ◌≤◌, length, take, All, arith, ◌-◌}
 use Rattle.std.proofs.lemmas.List.{length-map}
 use Rattle.std.proofs.lemmas.List.Elements.{All-take}
 use Rattle.theory.specs.Calls.{Content}
-use Rattle.keepers.specs.Meaning.{rep}
+use Rattle.theory.specs.Sheet.{Picture}
+use Rattle.theory.specs.Parts.{Leads, Parts}
+use Rattle.theory.proofs.Small.{counts_one}
+use Rattle.keepers.specs.Meaning.{rep, Settled, class_count}
 use Rattle.keepers.specs.declared.keeper.Keeper.{Ghosts as Kept}
 use Rattle.indexes.specs.Meaning.{held}
 use Rattle.indexes.specs.declared.index.Index.{Ghosts as Found}
+use Rattle.congruence.specs.declared.journal.Join.{Join}
 use Rattle.congruence.specs.declared.congruence.Congruence.{Congruence}
 use Rattle.congruence.specs.Drawn.{drawn, sheet, reasons}
-use Rattle.congruence.specs.Working.{Counted, Placed, Fresh}
+use Rattle.congruence.specs.Working.{Books, Counted, Placed, Fresh}
 use Rattle.congruence.specs.Whole.{Alike, Works}
 use Rattle.congruence.proofs.Replays.{tracked_placed, fresh_take}
 use Rattle.congruence.proofs.Tiers.{ready_counted}
+use Rattle.congruence.proofs.Tallies.{parts_counted}
 use Rattle.reasons.specs.declared.step.Step.{Step}
 use Rattle.reasons.specs.Table.{Explained}
 use Rattle.engines.specs.declared.entry.Entry.{Entry as Told}
@@ -27,6 +32,16 @@ module _ {X Y : Type 0} (kept : Kept X) {found : Found Y} where
   -- what is the same as what means the same
   pub alike_is : (c c' c'' : Congruence X Y kept found) → Alike kept c c' → c'' ≡ c' → Alike kept c c''
   alike_is c c' c'' h e = subst (Alike kept c) (sym e) h
+
+-- only the keeper is another, with the same representatives
+pub alike_keeper : {X Y : Type 0} (kept : Kept X) {found : Found Y} (c c' : Congruence X Y kept found) → kept.reps c'.keeper ≡ kept.reps c.keeper → c'.index ≡ c.index → c'.pictures ≡ c.pictures → c'.journal ≡ c.journal → Alike kept c c'
+alike_keeper kept c c' r i p j = record { reps = r; index = i; pictures = p; journal = j }
+
+-- where the journal tells the classes, there are as many as pictures without the joins
+pub counted_told : (rs : List ℕ) (P : List Picture) (J : List Join) → Settled rs → length rs ≡ length P → Books rs P J → class_count rs ≡ length P - length J
+counted_told rs P J s e b =
+    counts_one (Leads (rep rs) (length P)) (length P) (class_count rs) (length P - length J)
+    (subst (λ (n : ℕ). Parts (rep rs) n (class_count rs)) e (parts_counted rs s)) b.classes
 
 module _ {X Y : Type 0} (kept : Kept X) (found : Found Y) (c c' : Congruence X Y kept found) (h : Alike kept c c') where
   pub works_alike : Works kept found c → Works kept found c'

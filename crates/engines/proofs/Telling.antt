@@ -72,6 +72,13 @@ module _ {cap : ℕ} {rs rs' : List ℕ} {ps ps' : List Held} {E : List Entry} {
   books' : Books rs' (sheet ps) J'
   books' = before (λ Q. Books rs' Q J') h.working.books
 
+  -- the journal tells the classes of the pictures as they were, and has at most as many joins
+  pub told_journal : Books rs' (sheet ps) J'
+  told_journal = books'
+
+  pub told_few : length J' ≤ length (sheet ps)
+  told_few = books'.few
+
   -- two pictures of the sheet with one representative are joined by the journal
   pub told_books : (x y : ℕ) → On (sheet ps) x → On (sheet ps) y → rep rs' x ≡ rep rs' y → JoinedBy (sheet ps) (reasons J') x y
   told_books x y ox oy e = books'.tracks.told x y ox oy e
@@ -105,7 +112,7 @@ module _ {cap : ℕ} {rs rs' : List ℕ} {ps ps' : List Held} {E : List Entry} {
         idle = h.idle;
       }
 
-  longer : length J ≤ length J'
+  pub longer : length J ≤ length J'
   longer = omega (arith, ap length h.grows.is, length-append J h.grows.more)
 
   -- the joins are the classes before less the classes after

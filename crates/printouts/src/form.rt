@@ -56,7 +56,9 @@ fn read_numbers(letter: char, least: usize, most: usize, text: &[u8]) -> Result<
                 0
             }
         };
-        numbers.push(number);
+        let Ok(()) = numbers.push(number) else {
+            unreachable!()
+        };
         rest = next;
     }
     if !rest.is_empty() || numbers.len() < least {

@@ -4,4 +4,4 @@
 // at most N numbers
 pub mod row;
 
-pub use row::Row;
+pub use row::{Row, RowFull};

@@ -1,6 +1,10 @@
 ghost use Rattle.std.specs.Prelude.{◌≤◌};
 
-// At most N numbers, in order.
+// Why a row takes no number more: it has N of them.
+#[derive(Clone, Copy, PartialEq, Eq, Debug)]
+pub struct RowFull;
+
+// At most N numbers, in order. It is no ArrayVec of the kit, which cannot be copied, as pictures and records are.
 #[derive(Clone, Copy)]
 pub struct Row<const N: usize> {
     cells: [u16; N],

@@ -70,7 +70,7 @@ impl<K: Keeper, I: Index> Congruence<K, I> {
         ensures working { Works K.Keeper I.Index self.old → Works K.Keeper I.Index self.new }
         ensures swept { Works K.Keeper I.Index self.old → Swept (rep (K.reps self.old.keeper)) self.new.pictures.items result }
     {
-        // by number, since a proof knows nothing of the elements behind an adapter of iter_mut
+        // by number, which a look asks for: an enumeration would count from 0 and be no plainer
         for p in 1..=self.pictures.len() as u16 {
             if let Some(q) = look(
                 &mut self.keeper,

@@ -1,10 +1,11 @@
 ghost use Rattle.std.specs.Prelude.{◌≡◌, ℕ, ◌+◌, ◌<◌, ◌≤◌, length};
+ghost use Rattle.keepers.specs.Meaning.{class_count};
 ghost use Rattle.theory.specs.Sheet.{Classes};
 ghost use Rattle.theory.specs.Calls.{Answers};
 ghost use Rattle.theory.specs.Calls.{must as asking};
 ghost use Rattle.theory.specs.Calls.{why as asking_why};
 ghost use Rattle.congruence.specs.Drawn.{reasons};
-ghost use Rattle.congruence.specs.Whole.{Works};
+ghost use Rattle.congruence.specs.Whole.{Works, Alike};
 ghost use Rattle.reasons.specs.Table.{Explained};
 ghost use Rattle.engines.specs.Content.{content, pictures_on, entries_on};
 ghost use Rattle.engines.specs.Faults.{must_reply, why_reply};
@@ -25,6 +26,7 @@ impl<K: Keeper, I: Index> Open<K, I> {
         ensures whole { Whole K.Keeper I.Index self.new }
         ensures answer { Answers K.Keeper.limit (content self.old) (asking a b) (must_reply result) }
         ensures same { content self.new ≡ content self.old }
+        ensures alike { Alike K.Keeper self.old.congruence self.new.congruence }
     {
         check_pair(self.picture_count(), a, b)?;
         Ok(self.congruence.together(a, b))
@@ -68,7 +70,8 @@ impl<K: Keeper, I: Index> Open<K, I> {
     // The number of classes.
     pub fn classes(&self) -> u16
         requires { Whole K.Keeper I.Index self.now }
-        ensures { Classes (pictures_on self.now) (entries_on self.now) result }
+        ensures answer { Classes (pictures_on self.now) (entries_on self.now) result }
+        ensures counted { result ≡ class_count (K.Keeper.reps self.now.congruence.keeper) }
     {
         (self.picture_count() - self.congruence.journal().len()) as u16
     }

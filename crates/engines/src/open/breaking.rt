@@ -1,35 +1,30 @@
 ghost use Rattle.std.specs.Prelude.{◌≡◌, ℕ, ◌+◌, ◌<◌, ◌≤◌, length, All};
-ghost use Rattle.congruence.specs.Whole.{Alike};
 ghost use Rattle.engines.specs.Breaking.{Inside, broken, FirstBroken};
 
 use crate::entry::Entry;
-use congruence::Congruence;
-use indexes::Index;
+use congruence::rooting::together;
 use keepers::Keeper;
 
 // Whether an entry is a `differ` entry whose two pictures are in one class.
-fn is_broken<K: Keeper, I: Index>(classes: &mut Congruence<K, I>, entry: &Entry) -> bool
-    requires { Inside (length (K.reps classes.old.keeper)) entry.now }
-    ensures answer { result ≡ broken (K.reps classes.old.keeper) entry.now }
-    ensures same { Alike K.Keeper classes.old classes.new }
+fn is_broken<K: Keeper>(k: &mut K, entry: &Entry) -> bool
+    requires { Inside (length (K.reps k.old)) entry.now }
+    ensures answer { result ≡ broken (K.reps k.old) entry.now }
+    ensures same { K.reps k.new ≡ K.reps k.old }
 {
     match entry {
         Entry::Same(_, _) => false,
-        Entry::Differ(a, b) => classes.together(*a, *b),
+        Entry::Differ(a, b) => together(k, *a, *b),
     }
 }
 
 // The place of the first broken entry.
-pub fn first_broken<K: Keeper, I: Index>(
-    classes: &mut Congruence<K, I>,
-    entries: &[Entry],
-) -> Option<usize>
-    requires { All (Inside (length (K.reps classes.old.keeper))) entries.now }
-    ensures answer { FirstBroken (K.reps classes.old.keeper) entries.now result }
-    ensures same { Alike K.Keeper classes.old classes.new }
+pub fn first_broken<K: Keeper>(k: &mut K, entries: &[Entry]) -> Option<usize>
+    requires { All (Inside (length (K.reps k.old))) entries.now }
+    ensures answer { FirstBroken (K.reps k.old) entries.now result }
+    ensures same { K.reps k.new ≡ K.reps k.old }
 {
     for (i, entry) in entries.iter().enumerate() {
-        if is_broken(classes, entry) {
+        if is_broken(k, entry) {
             return Some(i);
         }
     }

@@ -1,4 +1,5 @@
-ghost use Rattle.std.specs.Prelude.{◌≡◌, ℕ, ◌+◌, ◌<◌, ◌≤◌, List, [], ◌∷◌, ◌++◌, length, take, vec_len};
+ghost use Rattle.std.specs.Prelude.{◌≡◌, ℕ, ◌+◌, ◌<◌, ◌≤◌, List, [], ◌∷◌, ◌++◌, length, take, IfOk, vec_len};
+ghost use Rattle.keepers.specs.Meaning.{class_count};
 ghost use Rattle.theory.specs.Sheet.{same, differ};
 ghost use Rattle.theory.specs.Calls.{tell, Answers, after};
 ghost use Rattle.theory.specs.Calls.{add as adding};
@@ -52,6 +53,7 @@ impl<K: Keeper, I: Index> Open<K, I> {
         ensures whole { Whole K.Keeper I.Index self.new }
         ensures answer { Answers K.Keeper.limit (content self.old) (tell (same a b) (length table.old)) (same_reply result) }
         ensures after { content self.new ≡ after (content self.old) (tell (same a b) (length table.old)) (same_reply result) }
+        ensures joins { IfOk result (λ j. class_count (K.Keeper.reps self.new.congruence.keeper) + j.joins ≡ class_count (K.Keeper.reps self.old.congruence.keeper)) }
         ensures table { ToldTable (pictures_on self.old) (entries_on self.old ++ same a b ∷ []) table.old table.new result }
     {
         let entry = check_entry(table.len(), self.picture_count(), self.entry_count(), a, b)?;
@@ -61,7 +63,7 @@ impl<K: Keeper, I: Index> Open<K, I> {
             right: b,
             cause: Cause::Entry(entry),
         });
-        match first_broken(&mut self.congruence, self.entries.as_slice()) {
+        match first_broken(&mut self.congruence.keeper, self.entries.as_slice()) {
             None => {
                 self.entries.push_reserved(Entry::Same(a, b));
                 Ok(Joined {

@@ -1,8 +1,8 @@
-ghost use Rattle.std.specs.Prelude.{◌≡◌, ◌<◌, ◌≤◌, [], ◌∷◌, ◌++◌, length, if◌then◌else◌, nat_lt, MatchOption};
+ghost use Rattle.std.specs.Prelude.{◌≡◌, ◌<◌, ◌≤◌, [], ◌∷◌, ◌++◌, length, is_ok, if◌then◌else◌, nat_lt, MatchOption};
 ghost use Rattle.std.specs.Fn.{FnOnceReturnsAtMut};
 ghost use Rattle.rows.specs.Row.{cells_of};
 
-use super::Row;
+use super::{Row, RowFull};
 
 impl<const N: usize> Row<N> {
     // The row of no number.
@@ -44,17 +44,17 @@ impl<const N: usize> Row<N> {
         self.as_slice().len()
     }
 
-    // Puts a number behind the others. Answers false, and leaves the row as it is, where it has N of them.
-    pub fn push(&mut self, x: u16) -> bool
-        ensures answer { result ≡ nat_lt (length (cells_of self.old)) N }
-        ensures after { cells_of self.new ≡ (if result then cells_of self.old ++ x ∷ [] else cells_of self.old) }
+    // Puts a number behind the others. Refused, and leaves the row as it is, where it has N of them.
+    pub fn push(&mut self, x: u16) -> Result<(), RowFull>
+        ensures answer { is_ok result ≡ nat_lt (length (cells_of self.old)) N }
+        ensures after { cells_of self.new ≡ (if is_ok result then cells_of self.old ++ x ∷ [] else cells_of self.old) }
     {
         if self.len == N {
-            return false;
+            return Err(RowFull);
         }
         self.cells[self.len] = x;
         self.len += 1;
-        true
+        Ok(())
     }
 
     // Lets a function write its numbers: what it leaves in the slice are the numbers afterwards.

@@ -1,4 +1,4 @@
-use Rattle.std.proofs.Common.{◌≡◌, ◌-◌, ◌<◌, ◌∷◌, [], ◌++◌, length, take, drop, sym, refl, ap, ◌∙◌, arith, rules}
+use Rattle.std.proofs.Common.{◌≡◌, is_ok, ◌-◌, ◌<◌, ◌∷◌, [], ◌++◌, length, take, drop, sym, refl, ap, ◌∙◌, arith, rules}
 use Rattle.std.proofs.lemmas.List.{length_push}
 use Rattle.std.proofs.lemmas.Result.{err_from_is_err_and}
 use Rattle.rows.specs.Row.{cells_of}
@@ -22,7 +22,7 @@ loop-rest-preserved c =
     let nx = c.in-Some.next.now in
     let v = c.in-Some.value in
     let few : length (cells_of c.loop-rest.numbers) < c.args.most = search rules in
-    let p = pushed c.push.result ns (cells_of c.push.new.self) c.match-try_from.number 9 c.push.ensures.answer (omega (arith, few, c.requires.1)) c.push.ensures.after in (
+    let p = pushed (is_ok c.push.result) ns (cells_of c.push.new.self) c.match-try_from.number 9 c.push.ensures.answer (omega (arith, few, c.requires.1)) c.push.ensures.after in (
       elim c.match-try_from.branch [
         | in-Ok w ↦ moved (sofar_narrow c.args.text.now r.rest.now more nx v ns r.fits r.invariant.0 e t (omega (arith, w.in-Ok.ensures.0))) (p ∙ ap (λ n. ns ++ (n ∷ [])) (w.number-is ∙ w.in-Ok.ensures.1)) w.fits-is
         | in-Err w ↦ moved (sofar_wide c.args.text.now r.rest.now more nx v 0 ns r.fits r.invariant.0 e t (omega (arith, w.in-Err.ensures))) (p ∙ ap (λ n. ns ++ (n ∷ [])) w.number-is) (w.fits-is ∙ w.and-fits.ensures)

@@ -28,4 +28,5 @@ returns g c =
       whole = whole_alike g.K.Keeper g.I.Index s.congruence c.together.new.self same es es refl g.K.Keeper.limit c.requires;
       answer = must_answers g.K.Keeper.limit (content s) (rep (g.K.Keeper.reps s.congruence.keeper)) c.args.a c.args.b c.together.result c.requires.closes oa ob c.together.ensures.answer;
       same = content_alike g.K.Keeper g.I.Index s.congruence c.together.new.self same es es refl;
+      alike = same;
     }

@@ -1,4 +1,4 @@
-use Rattle.std.proofs.Common.{◌≡◌, ℕ, ◌+◌, ◌-◌, false, List, [], ◌∷◌, ◌++◌, length, get_or, take, Some, Err, vec_items, All, sym, refl, ap, ◌∙◌, ap₂, subst, subst₂, inl, inr, add-one, arith}
+use Rattle.std.proofs.Common.{◌≡◌, ℕ, ◌+◌, ◌-◌, false, List, [], ◌∷◌, ◌++◌, length, get_or, take, Some, Err, vec_items, All, sym, refl, ap, ◌∙◌, ap₂, subst, subst₂, inl, inr, add-one, arith, Result, IfOk}
 use Rattle.std.proofs.lemmas.List.Elements.{All-push}
 use Rattle.std.proofs.lemmas.List.{length-append, length-map, map-append}
 use Rattle.std.proofs.lemmas.Result.{err_from_is_err_and}
@@ -6,7 +6,9 @@ use Rattle.theory.specs.Sheet.{Picture, Entry, Breaks, First}
 use Rattle.theory.specs.Sheet.{same as same-entry}
 use Rattle.theory.specs.Reasons.{Derivation}
 use Rattle.theory.specs.Calls.{Content, Answer, joined, refused, contradiction, Differs}
+use Rattle.keepers.specs.Meaning.{class_count}
 use Rattle.indexes.specs.Meaning.{held}
+use Rattle.congruence.specs.declared.congruence.Congruence.{Congruence}
 use Rattle.congruence.specs.declared.journal.Join.{Join}
 use Rattle.congruence.specs.declared.journal.Cause.TheVariants.{Entry as By-entry}
 use Rattle.congruence.specs.Drawn.{drawn, sheet, reasons}
@@ -15,14 +17,15 @@ use Rattle.congruence.proofs.Replays.{derived_fresh}
 use Rattle.congruence.proofs.Tiers.{works_holds}
 use Rattle.reasons.specs.Table.{Explained}
 use Rattle.engines.specs.declared.answer.Joined.{Joined}
+use Rattle.engines.specs.declared.fault.SheetFault.{SheetFault}
 use Rattle.engines.specs.declared.entry.Entry.{Entry as Told}
 use Rattle.engines.specs.declared.entry.Entry.TheVariants.{Same}
 use Rattle.engines.specs.Content.{pictures_on, entries_on, content, entry_of, taken}
 use Rattle.engines.specs.Breaking.{Inside, Unbroken, FirstBroken, left_of, right_of}
 use Rattle.engines.specs.Whole.{Rests}
-use Rattle.engines.proofs.Alikes.{works_alike, explained_alike, whole_alike, content_alike}
+use Rattle.engines.proofs.Alikes.{alike_keeper, counted_told, works_alike, explained_alike, whole_alike, content_alike}
 use Rattle.engines.proofs.Deciding.{none_breaks, first_breaks, differs_at, impossible, possible, inside, passed, passed_on, broken_one, placed_ends}
-use Rattle.engines.proofs.Telling.{Tied, told_books, number_new, same_proper, same_derived, same_closes, same_rests, same_taken, same_begins, rests_again}
+use Rattle.engines.proofs.Telling.{Tied, longer, told_few, told_journal, told_books, number_new, same_proper, same_derived, same_closes, same_rests, same_taken, same_begins, rests_again}
 use Rattle.engines.proofs.Stopping.{stopped_whole, shown}
 use Rattle.engines.proofs.open.Open.same.Goals as goal
 
@@ -33,7 +36,7 @@ returns-in_err-entry g c =
     let says : Joined → Answer = λ j. joined j.entry j.joins in
     let h = stopped_whole says g.K.Keeper.limit (content s) (same-entry c.args.a c.args.b) c.args.table.now c.picture_count.result c.entry_count.result c.args.a c.args.b c.picture_count.ensures c.entry_count.ensures
     (λ o. o) (λ oa ob. (oa, ob)) c.from_residual.result c.in_err-entry.field-0.0 (p.1 ∙ ap Err p.2) c.in_err-entry.ensures in
-    record { whole = c.requires; answer = h.0; after = h.1; table = h.2 }
+    record { whole = c.requires; answer = h.0; after = h.1; joins = subst (λ (r : Result Joined SheetFault). IfOk r (λ j. class_count (g.K.Keeper.reps s.congruence.keeper) + j.joins ≡ class_count (g.K.Keeper.reps s.congruence.keeper))) (sym p.1) tt; table = h.2 }
 
 pub tie-requires : goal.tie-requires
 tie-requires g c =
@@ -59,7 +62,7 @@ overflow_sub-result g c =
     let s = c.args.self.now in
     let grows = c.tie.ensures.grows c.requires.working in
     let l = ap length grows.is ∙ length-append (vec_items s.congruence.journal) grows.more in
-    omega (arith, l, ap length c.journal-joined.ensures, ap length c.journal.ensures, ap (λ x. length (vec_items x)) c.first_broken.ensures.same.journal)
+    omega (arith, l, ap length c.journal-joined.ensures, ap length c.journal.ensures)
 
 pub withdraw-steps-requires : goal.withdraw-steps-requires
 withdraw-steps-requires g c =
@@ -97,8 +100,8 @@ withdraw-steps-requires g c =
       grows = c.tie.ensures.grows c.requires.working;
       meet = c.tie.ensures.joined c.requires.working;
     } in
-    let same = c.first_broken.ensures.same in
-    let u = c.first_broken.new.classes in
+    let u : Congruence g.row.K.Denot g.row.I.Denot g.K.Keeper g.I.Index = record { keeper = c.first_broken.new.k; index = t1.index; pictures = t1.pictures; journal = t1.journal; picture_room = t1.picture_room; journal_room = t1.journal_room } in
+    let same = alike_keeper g.K.Keeper t1 u c.first_broken.ensures.same refl refl refl in
     let fresh : Fresh (sheet ps') J' = derived_fresh (sheet ps') E' J' (subst (λ Q. Derivation Q E' [] (reasons J')) (sym tied.sheets) (same_derived tied)) in
     record {
       working = works_alike g.K.Keeper g.I.Index t1 u same tied.working;
@@ -143,8 +146,8 @@ returns-in-None g c =
       grows = c.tie.ensures.grows c.requires.working;
       meet = c.tie.ensures.joined c.requires.working;
     } in
-    let same = c.first_broken.ensures.same in
-    let u = c.first_broken.new.classes in
+    let u : Congruence g.row.K.Denot g.row.I.Denot g.K.Keeper g.I.Index = record { keeper = c.first_broken.new.k; index = t1.index; pictures = t1.pictures; journal = t1.journal; picture_room = t1.picture_room; journal_room = t1.journal_room } in
+    let same = alike_keeper g.K.Keeper t1 u c.first_broken.ensures.same refl refl refl in
     let es = vec_items s.entries in
     let fs = es ++ Same a b ∷ [] in
     let o = c.push_reserved.new.self in
@@ -160,6 +163,7 @@ returns-in-None g c =
           (inr (possible (content s) (same-entry a b) (same_proper tied) unbroken, same_taken tied k joins ek ej));
       after = content_alike g.K.Keeper g.I.Index t1 u same fs (vec_items o) c.push_reserved.ensures.items
           ∙ ap₂ (λ (Q : List Picture) (F : List Entry). record { locked = false; pictures = Q; entries = F }) tied.sheets pushed;
+      joins = omega (arith, ej, longer tied, told_few tied, counted_told rs P J (g.met.K.Keeper.settled s.congruence.keeper) c.requires.working.ready.counted c.requires.working.books, subst (λ (r : List ℕ). class_count r ≡ class_count rs') (sym c.first_broken.ensures.same) refl, counted_told rs' P J' (g.met.K.Keeper.settled t1.keeper) (tied.working.ready.counted ∙ ap length tied.sheets) (told_journal tied));
       table = refl;
     }
 
@@ -199,8 +203,8 @@ returns-in-Some g c =
       grows = c.tie.ensures.grows c.requires.working;
       meet = c.tie.ensures.joined c.requires.working;
     } in
-    let same = c.first_broken.ensures.same in
-    let u = c.first_broken.new.classes in
+    let u : Congruence g.row.K.Denot g.row.I.Denot g.K.Keeper g.I.Index = record { keeper = c.first_broken.new.k; index = t1.index; pictures = t1.pictures; journal = t1.journal; picture_room = t1.picture_room; journal_room = t1.journal_room } in
+    let same = alike_keeper g.K.Keeper t1 u c.first_broken.ensures.same refl refl refl in
     let closes = same_closes tied in
     let es = vec_items s.entries in
     let i = c.in-Some.i in
@@ -234,5 +238,6 @@ returns-in-Some g c =
       answer = passed cap (content s) (same-entry a b) (length t) c.picture_count.result c.entry_count.result a b c.picture_count.ensures c.entry_count.ensures (λ o. o) (λ oa ob. (oa, ob)) (refused (contradiction (i + 1) n)) pass.1
           (inl (impossible (content s) (same-entry a b) (i + 1) (same_proper tied) bad, (i + 1, n, l, r, bad, which, shown P E' l r n t t' written, refl)));
       after = ap₂ (λ (Q : List Picture) (F : List Entry). record { locked = false; pictures = Q; entries = F }) same-pictures same-entries;
+      joins = tt;
       table = (l, r, which, written);
     }
