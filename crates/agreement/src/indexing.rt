@@ -10,7 +10,8 @@ enum Call {
     Delete(u16, &'static [u16]),
 }
 
-// What a call answers, as a number, so that one table of expected numbers serves every index: nothing by 0, a refusal by 2,000 and its number.
+// What a call answers, as a number, so that one table of expected numbers serves every index: nothing by 0, a refusal by 2,000 and its
+// number. A table of closures would be generic over the index, row by row, and no plainer.
 fn answer<I: Index>(index: &mut I, call: Call) -> u16 {
     match call {
         Call::Reset => {

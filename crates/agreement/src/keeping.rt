@@ -12,7 +12,8 @@ enum Call {
     Classes,
 }
 
-// What a call answers, as a number, so that one table of expected numbers serves every keeper: a refusal by 100 and its number.
+// What a call answers, as a number, so that one table of expected numbers serves every keeper: a refusal by 100 and its number. A table
+// of closures would be generic over the keeper, row by row, and no plainer.
 fn answer<K: Keeper>(k: &mut K, call: Call) -> u16 {
     let answered = match call {
         Call::Reset => {

@@ -16,7 +16,7 @@ pub trait Test<R> {
         ensures { result ≡ passes self.now r.now };
 }
 
-// A cell of a chain, and the one before it, 0 where it is the first.
+// A cell of a chain, and the one before it, 0 where it is the first, as the rules number cells.
 #[derive(Clone, Copy)]
 pub struct Found {
     pub before: u16,

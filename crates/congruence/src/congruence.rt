@@ -6,7 +6,8 @@ use indexes::Index;
 use keepers::Keeper;
 
 // Pictures, and the classes that their joins force. The classes are the keeper's; the index leads from the signatures of the pictures to pictures that
-// bear them; the journal has the joins that made the classes, in order.
+// bear them; the journal has the joins that made the classes, in order. What ties them to one another stands in the records `Holds` and `Works`, and not
+// in ghost fields: in a struct that owns memory they cannot name what a bound's trait says.
 #[derive(Drop)]
 pub struct Congruence<K: Keeper, I: Index> {
     pub keeper: K,

@@ -4,7 +4,7 @@ ghost use Rattle.indexes.specs.Records.{lead_of};
 
 use super::record::Record;
 
-// The index that is a plain list of records, each signature once.
+// The index that is a plain list of records, each signature once. The rules want it looked through from the front.
 #[derive(Drop)]
 pub struct Plain {
     records: Vec<Record>,

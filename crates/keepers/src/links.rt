@@ -10,7 +10,7 @@ use crate::keeper::{Keeper, KeeperFault, Outcome};
 use crate::link::Link;
 use std::alloc::{AllocError, Global};
 
-// links[p] is the link of picture p; links[0] is no picture's.
+// links[p] is the link of picture p; links[0] is no picture's. No call allocates, so links are numbers and not boxes.
 #[derive(Drop)]
 pub struct Links {
     links: Vec<Link>,

@@ -68,7 +68,7 @@ impl<K: Keeper, I: Index> Desk<K, I> {
         Ok(self.make_call(&line)?)
     }
 
-    // Makes the call that the letter names.
+    // Makes the call that the letter names. Each arm has arguments and an answer of its own, so a match is plainer than a table of closures.
     fn make_call(&mut self, line: &Line) -> Result<Answer, SheetFault>
         requires whole { Whole K.Keeper I.Index self.old.sheet }
         requires takes { Takes line.now.letter (length (line_numbers line.now)) }

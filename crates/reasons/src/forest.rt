@@ -38,7 +38,7 @@ pub struct Trees {
 #[derive(Drop)]
 pub struct Forest {
     trees: Trees,
-    // the picture that each join hung below another
+    // the picture that each join hung below another, beside the journal, which is the sheet's
     hung: Vec<u16>,
     ghost room: { 1024 ≤ vec_capacity hung },
 }

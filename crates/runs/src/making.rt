@@ -28,7 +28,7 @@ pub(crate) fn make_call<K: Keeper, I: Index>(
     }
 }
 
-// Makes one call on an open sheet.
+// Makes one call on an open sheet. Each arm has arguments and an answer of its own, so a match is plainer than a table of closures.
 fn call_open<K: Keeper, I: Index>(
     mut sheet: Open<K, I>,
     table: &mut [Step],
@@ -71,7 +71,7 @@ fn call_open<K: Keeper, I: Index>(
     }
 }
 
-// Makes one call on a locked sheet.
+// Makes one call on a locked sheet, by a match for the same reason.
 fn call_locked<K: Keeper, I: Index>(
     mut sheet: Locked<K, I>,
     table: &mut [Step],
