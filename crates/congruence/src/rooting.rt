@@ -16,7 +16,7 @@ pub fn root<K: Keeper>(k: &mut K, p: u16) -> u16
     k.find(p).unwrap()
 }
 
-// Whether two pictures are in one class.
+// Whether two pictures are in one class. Unlike `is_same` of the keepers it is asked of pictures only, and cannot fail.
 pub fn together<K: Keeper>(k: &mut K, p: u16, q: u16) -> bool
     requires on { Within (K.reps k.old) p × Within (K.reps k.old) q }
     ensures answer { result ≡ (rep (K.reps k.old) p == rep (K.reps k.old) q) }

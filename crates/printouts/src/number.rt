@@ -13,7 +13,8 @@ pub(crate) fn read_number(text: &[u8]) -> Option<(u32, &[u8])>
     }
 }
 
-// The number of up to `most` digits at the start of a text, and what follows it.
+// The number of up to `most` digits at the start of a text, and what follows it. The loop gives both; a fold over the digits would leave the second to be
+// counted again.
 fn read_digits(text: &[u8], most: u8) -> (u32, &[u8])
     requires { Longest (slice_index text.now 0) most }
     ensures reads { Took text.now result.0 result.1.now }

@@ -6,7 +6,8 @@ use engines::{Added, Joined};
 use std::alloc::AllocError;
 use std::fmt;
 
-// What the call of a line answers.
+// What the call of a line answers. A list makes four calls, so this has four of the seven answers that a run can have: with all seven, three arms would
+// stand for what cannot be.
 #[derive(Clone, Copy, PartialEq, Eq, Debug)]
 pub enum Answer {
     // to p: the picture's number, and the lowest number in its class

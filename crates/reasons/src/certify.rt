@@ -3,12 +3,12 @@ ghost use Rattle.std.specs.List.{AllZip};
 ghost use Rattle.congruence.specs.Drawn.{sheet, reason_of, reasons};
 ghost use Rattle.reasons.specs.Marks.{Enough, Alike, Stands, Absorbed};
 
-use crate::inputs::inputs_of;
+use crate::inputs::inputs_of_both;
 use crate::question::Question;
 use congruence::{Cause, Join, Picture};
 use keepers::{Keeper, is_same, populate};
 
-// Whether two pictures are in one class.
+// Whether two pictures are in one class. Unlike `together` it may be asked of any numbers, and says no of those that are no pictures.
 fn one_class<S: Keeper>(scratch: &mut S, x: u16, y: u16) -> bool
     ensures answer { result ≡ true → Alike (S.reps scratch.old) x y }
     ensures same { S.reps scratch.new ≡ S.reps scratch.old }
@@ -16,7 +16,7 @@ fn one_class<S: Keeper>(scratch: &mut S, x: u16, y: u16) -> bool
     is_same(scratch, x, y).unwrap_or(false)
 }
 
-// Whether two rows are in one class in pairs.
+// Whether two rows are in one class in pairs. The loop cannot be an `all`: a proof knows nothing of what a closure answers that changes the keeper.
 fn alike<S: Keeper>(scratch: &mut S, left: &[u16], right: &[u16]) -> bool
     ensures answer { result ≡ true → AllZip (Alike (S.reps scratch.old)) left.now right.now }
     ensures same { S.reps scratch.new ≡ S.reps scratch.old }
@@ -40,12 +40,9 @@ fn stands<S: Keeper>(scratch: &mut S, pictures: &[Picture], join: &Join) -> bool
     let Cause::Twins = join.cause else {
         return true;
     };
-    match (
-        inputs_of(pictures, join.left),
-        inputs_of(pictures, join.right),
-    ) {
-        (Some(left), Some(right)) => alike(scratch, left, right),
-        _ => false,
+    match inputs_of_both(pictures, join) {
+        Some((left, right)) => alike(scratch, left, right),
+        None => false,
     }
 }
 

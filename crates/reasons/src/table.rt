@@ -6,7 +6,7 @@ use crate::step::Step;
 use chains::thread;
 use congruence::Join;
 
-// Writes the joins into the cells 1, 2, 3 and so on of the table.
+// Writes the joins into the cells 1, 2, 3 and so on of the table, by their places: of cells behind a zip of iter_mut a proof knows nothing.
 fn write_steps(table: &mut [Step], joins: &[Join])
     requires { length joins.now ≤ length table.old }
     ensures { Listed joins.now table.old table.new (length joins.now) }

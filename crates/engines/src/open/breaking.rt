@@ -17,7 +17,7 @@ fn is_broken<K: Keeper>(k: &mut K, entry: &Entry) -> bool
     }
 }
 
-// The place of the first broken entry.
+// The place of the first broken entry. The loop cannot be a `position`: a proof knows nothing of what a closure answers that changes the keeper.
 pub fn first_broken<K: Keeper>(k: &mut K, entries: &[Entry]) -> Option<usize>
     requires { All (Inside (length (K.reps k.old))) entries.now }
     ensures answer { FirstBroken (K.reps k.old) entries.now result }

@@ -40,7 +40,8 @@ impl<K: Keeper, I: Index> Open<K, I> {
         self.lowest_of(x) == x
     }
 
-    // Whether each of these numbers is the value of a picture.
+    // Whether each of these numbers is the value of a picture. The loop cannot be an `all`: a proof knows nothing of what a closure answers that changes
+    // the sheet.
     fn are_values(&mut self, numbers: &[u16]) -> bool
         requires { Whole K.Keeper I.Index self.old }
         ensures whole { Whole K.Keeper I.Index self.new }

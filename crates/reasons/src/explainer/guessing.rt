@@ -1,6 +1,6 @@
 use crate::explainer::{Explainer, Pair};
 use crate::forest::Bridge;
-use crate::inputs::inputs_of;
+use crate::inputs::inputs_of_both;
 use crate::question::Question;
 use congruence::{Cause, Join, Picture};
 use keepers::{Keeper, is_same, populate};
@@ -46,10 +46,7 @@ impl<S: Keeper> Explainer<S> {
         let Cause::Twins = join.cause else {
             return;
         };
-        let (Some(left), Some(right)) = (
-            inputs_of(pictures, join.left),
-            inputs_of(pictures, join.right),
-        ) else {
+        let Some((left, right)) = inputs_of_both(pictures, join) else {
             return;
         };
         for (x, y) in left.iter().zip(right) {
