@@ -1,16 +1,21 @@
 -- A sheet at rest is told an entry: taken, or refused and withdrawn. Assumes nothing.
-use Rattle.std.proofs.Common.{◌≡◌, ℕ, suc, ◌+◌, ◌-◌, ◌≤◌, List, [], ◌∷◌, ◌++◌, length, take, All, Option, sym, refl, ap, ◌∙◌, subst, add-one, arith}
+use Rattle.std.proofs.Common.{◌≡◌, ℕ, suc, ◌+◌, ◌-◌, ◌≤◌, List, [], ◌∷◌, ◌++◌, length, take, All, Option, sym, refl, ap, ◌∙◌, subst, add-one, arith, vec_items}
 use Rattle.std.proofs.lemmas.List.Elements.{All-nil, All-cons, All-head, All-tail, All-push}
 use Rattle.std.proofs.lemmas.List.{take_at, length-append, append-nil}
 use Rattle.theory.specs.Sheet.{Picture, Entry, same, differ, On, Placed, Proper, Keeps, Breaks, Classes}
-use Rattle.theory.specs.Reasons.{Number, JoinedBy, Fits, Derivation}
+use Rattle.theory.specs.Reasons.{Number, JoinedBy, Fits, Derivation, by_entry}
 use Rattle.theory.specs.Calls.{Taken, joined}
 use Rattle.theory.proofs.Journals.{entry_more_law}
 use Rattle.theory.proofs.Small.{differ_law}
 use Rattle.keepers.specs.Meaning.{rep}
+use Rattle.keepers.specs.declared.keeper.Keeper.{Ghosts as Kept}
+use Rattle.indexes.specs.Meaning.{held}
+use Rattle.indexes.specs.declared.index.Index.{Ghosts as Found}
 use Rattle.congruence.specs.declared.journal.Join.{Join}
 use Rattle.congruence.specs.declared.picture.Picture.{Picture as Held}
+use Rattle.congruence.specs.declared.congruence.Congruence.{Congruence}
 use Rattle.congruence.specs.Drawn.{sheet, reason_of, reasons}
+use Rattle.congruence.specs.Whole.{Works}
 use Rattle.congruence.specs.Working.{Together, Books, Grows, Any, Closes}
 use Rattle.congruence.specs.Waiting.{Working, Idle}
 use Rattle.congruence.proofs.Journals.{grows_coarser}
@@ -53,6 +58,25 @@ pub record Tied (cap : ℕ) (rs rs' : List ℕ) (ps ps' : List Held) (E : List E
   pub idle : Idle ps'
   pub grows : Grows (sheet ps) (λ F. Fits (sheet ps) F (reasons J) (reason_of j)) J J'
   pub meet : rep rs' a ≡ rep rs' b
+
+-- so it is where a congruence that rested has tied the entry in
+pub tied_in : {X Y : Type 0} (kept : Kept X) (found : Found Y) (cap : ℕ) (c c' : Congruence X Y kept found) (E : List Entry) (a b k : ℕ) (j : Join) → reason_of j ≡ by_entry a b k → k ≡ length E + 1 →
+    Rests cap (kept.reps c.keeper) (vec_items c.pictures) E (held (found.leads c.index)) (vec_items c.journal) → On (sheet (vec_items c.pictures)) a → On (sheet (vec_items c.pictures)) b →
+    sheet (vec_items c'.pictures) ≡ sheet (vec_items c.pictures) → Works kept found c' → Idle (vec_items c'.pictures) →
+    Grows (sheet (vec_items c.pictures)) (λ F. Fits (sheet (vec_items c.pictures)) F (reasons (vec_items c.journal)) (reason_of j)) (vec_items c.journal) (vec_items c'.journal) → rep (kept.reps c'.keeper) a ≡ rep (kept.reps c'.keeper) b →
+    Tied cap (kept.reps c.keeper) (kept.reps c'.keeper) (vec_items c.pictures) (vec_items c'.pictures) E (held (found.leads c.index)) (held (found.leads c'.index)) (vec_items c.journal) (vec_items c'.journal) j a b
+tied_in kept found cap c c' E a b k j is ek w oa ob es w' idle grows meet =
+    record {
+      rested = w;
+      left_on = oa;
+      right_on = ob;
+      fits = subst (λ s. Fits (sheet (vec_items c.pictures)) (E ++ same a b ∷ []) (reasons (vec_items c.journal)) s) (sym is) (number_new E k a b ek);
+      sheets = es;
+      working = w';
+      idle = idle;
+      grows = grows;
+      meet = meet;
+    }
 
 module _ {cap : ℕ} {rs rs' : List ℕ} {ps ps' : List Held} {E : List Entry} {m m' : ℕ → List ℕ → Option ℕ} {J J' : List Join} {j : Join} {a b : ℕ} (h : Tied cap rs rs' ps ps' E m m' J J' j a b) where
   abbrev P : List Picture

@@ -11,7 +11,7 @@ use Rattle.theory.proofs.Closed.{c_refl, c_sym, c_trans, c_twins, c_keeps, lowes
 use Rattle.theory.proofs.Laws.{dec_on}
 use Rattle.theory.proofs.Settled.{known_all}
 use Rattle.theory.proofs.Values.{map_same}
-use Rattle.theory.proofs.Each.{uncons}
+use Rattle.theory.proofs.Each.{uncons, dec_zip}
 
 at_end : (P : List Picture) (x : Picture) → get_or (P ++ (x ∷ [])) (length P) blank ≡ x
 at_end [] x = refl
@@ -112,23 +112,12 @@ module _ (P : List Picture) (x : Picture) (E : List Entry) (w : Proper P E) (ins
       go (yes oa) (no n) = no (λ c. n c.1)
       go (no n) d = no (λ c. n c.0)
 
-  dec_each : (xs ys : List ℕ) → Dec (AllZip (Closure P E) xs ys)
-  dec_each [] [] = yes tt
-  dec_each [] (y ∷ ys) = no (λ h. h)
-  dec_each (a ∷ xs) [] = no (λ h. h)
-  dec_each (a ∷ xs) (y ∷ ys) = go (dec_closure a y) (dec_each xs ys)
-    where
-      go : Dec (Closure P E a y) → Dec (AllZip (Closure P E) xs ys) → Dec (AllZip (Closure P E) (a ∷ xs) (y ∷ ys))
-      go (yes a) (yes b) = yes (a, b)
-      go (yes a) (no b) = no (λ h. b h.1)
-      go (no a) d = no (λ h. a h.0)
-
   -- t is a twin of the new picture
   abbrev Twin : ℕ → Type 0
   Twin t = (x.operation ≡ operation P t) × AllZip (Closure P E) x.inputs (inputs P t)
 
   dec_twin : (t : ℕ) → Dec (Twin t)
-  dec_twin t = go (ℕ_discrete x.operation (operation P t)) (dec_each x.inputs (inputs P t))
+  dec_twin t = go (ℕ_discrete x.operation (operation P t)) (dec_zip (Closure P E) dec_closure x.inputs (inputs P t))
     where
       go : Dec (x.operation ≡ operation P t) → Dec (AllZip (Closure P E) x.inputs (inputs P t)) → Dec (Twin t)
       go (yes a) (yes b) = yes (a, b)

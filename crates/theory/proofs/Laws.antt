@@ -9,7 +9,7 @@ use Rattle.theory.specs.Statements.{Known, Satisfiable, ContradictionLaw, MustLa
 use Rattle.theory.proofs.Values.{sound}
 use Rattle.theory.proofs.Settled.{known_all}
 use Rattle.theory.proofs.Closed.{c_refl, c_twins, c_keeps, lowest_same, lowest_joins, lowest_moves, each_joins}
-use Rattle.theory.proofs.Each.{uncons}
+use Rattle.theory.proofs.Each.{uncons, dec_zip}
 
 -- LISTS. If Q is nowhere first, it is nowhere
 later : {X : Type 0} (Q : X → Type 0) (k : ℕ) (x : X) (xs : List X) → ¬ Q x → First Q k xs → First Q (suc k) (x ∷ xs)
@@ -113,17 +113,6 @@ module _ (P : List Picture) (E : List Entry) (known : Known P E) where
       go (yes on) = at on (ℕ_discrete (known p on).0 m)
       go (no n) = no (λ l. n l.0.0)
 
-  dec_each : (xs ms : List ℕ) → Dec (AllZip (Lowest P E) xs ms)
-  dec_each [] [] = yes tt
-  dec_each [] (m ∷ ms) = no (λ h. h)
-  dec_each (x ∷ xs) [] = no (λ h. h)
-  dec_each (x ∷ xs) (m ∷ ms) = go (dec_lowest x m) (dec_each xs ms)
-    where
-      go : Dec (Lowest P E x m) → Dec (AllZip (Lowest P E) xs ms) → Dec (AllZip (Lowest P E) (x ∷ xs) (m ∷ ms))
-      go (yes a) (yes b) = yes (a, b)
-      go (yes a) (no b) = no (λ h. b h.1)
-      go (no a) d = no (λ h. a h.0)
-
   pub dec_closure : (a b : ℕ) → On P a → On P b → Dec (Closure P E a b)
   dec_closure a b oa ob = go (ℕ_discrete (known a oa).0 (known b ob).0)
     where
@@ -141,7 +130,7 @@ module _ (P : List Picture) (E : List Entry) (known : Known P E) where
 
   module _ (o : ℕ) (xs : List ℕ) where
     dec-bears : (p : ℕ) → On P p → Dec (Bears P E o xs p)
-    dec-bears p on = go (ℕ_discrete (operation P p) o) (dec_each (inputs P p) xs)
+    dec-bears p on = go (ℕ_discrete (operation P p) o) (dec_zip (Lowest P E) dec_lowest (inputs P p) xs)
       where
         go : Dec (operation P p ≡ o) → Dec (AllZip (Lowest P E) (inputs P p) xs) → Dec (Bears P E o xs p)
         go (yes a) (yes b) = yes (on, a, b)

@@ -25,7 +25,7 @@ use Rattle.engines.specs.Breaking.{Inside, Unbroken, FirstBroken, left_of, right
 use Rattle.engines.specs.Whole.{Rests}
 use Rattle.engines.proofs.Alikes.{alike_keeper, counted_told, works_alike, explained_alike, whole_alike, content_alike}
 use Rattle.engines.proofs.Deciding.{none_breaks, first_breaks, differs_at, impossible, possible, inside, passed, passed_on, broken_one, placed_ends}
-use Rattle.engines.proofs.Telling.{Tied, longer, told_few, told_journal, told_books, number_new, same_proper, same_derived, same_closes, same_rests, same_taken, same_begins, rests_again}
+use Rattle.engines.proofs.Telling.{tied_in, longer, told_few, told_journal, told_books, same_proper, same_derived, same_closes, same_rests, same_taken, same_begins, rests_again}
 use Rattle.engines.proofs.Stopping.{stopped_whole, shown}
 use Rattle.engines.proofs.open.Open.same.Goals as goal
 
@@ -68,19 +68,12 @@ pub withdraw-steps-requires : goal.withdraw-steps-requires
 withdraw-steps-requires g c =
     let s = c.args.self.now in
     let t = c.args.table.now in
-    let P = pictures_on s in
     let E = entries_on s in
     let a = c.args.a in
     let b = c.args.b in
     let k = c.in_ok-entry.entry in
     let cap = g.K.Keeper.limit in
-    let rs = g.K.Keeper.reps s.congruence.keeper in
-    let m = held (g.I.Index.leads s.congruence.index) in
-    let ps = vec_items s.congruence.pictures in
-    let J = vec_items s.congruence.journal in
     let t1 = c.tie.new.self in
-    let rs' = g.K.Keeper.reps t1.keeper in
-    let m' = held (g.I.Index.leads t1.index) in
     let ps' = vec_items t1.pictures in
     let J' = vec_items t1.journal in
     let E' : List Entry = E ++ same-entry a b ∷ [] in
@@ -88,18 +81,8 @@ withdraw-steps-requires g c =
     let pass = c.in_ok-entry.ensures in
     let on = passed_on cap (content s) (same-entry a b) (length t) c.picture_count.result c.entry_count.result a b c.picture_count.ensures c.entry_count.ensures (λ o. o) (λ oa ob. (oa, ob)) pass.1 in
     let ek : k ≡ length E + 1 = pass.0 ∙ ap (λ (n : ℕ). n + 1) c.entry_count.ensures in
-    let tied : Tied cap rs rs' ps ps' E m m' J J' j a b =
-    record {
-      rested = c.requires;
-      left_on = on.0;
-      right_on = on.1;
-      fits = number_new E k a b ek;
-      sheets = c.tie.ensures.sheet;
-      working = c.tie.ensures.working c.requires.working;
-      idle = c.tie.ensures.idle c.requires.working c.requires.idle;
-      grows = c.tie.ensures.grows c.requires.working;
-      meet = c.tie.ensures.joined c.requires.working;
-    } in
+    let tied = tied_in g.K.Keeper g.I.Index cap s.congruence t1 E a b k j refl ek c.requires on.0 on.1 c.tie.ensures.sheet (c.tie.ensures.working c.requires.working)
+    (c.tie.ensures.idle c.requires.working c.requires.idle) (c.tie.ensures.grows c.requires.working) (c.tie.ensures.joined c.requires.working) in
     let u : Congruence g.row.K.Denot g.row.I.Denot g.K.Keeper g.I.Index = record { keeper = c.first_broken.new.k; index = t1.index; pictures = t1.pictures; journal = t1.journal; picture_room = t1.picture_room; journal_room = t1.journal_room } in
     let same = alike_keeper g.K.Keeper t1 u c.first_broken.ensures.same refl refl refl in
     let fresh : Fresh (sheet ps') J' = derived_fresh (sheet ps') E' J' (subst (λ Q. Derivation Q E' [] (reasons J')) (sym tied.sheets) (same_derived tied)) in
@@ -121,8 +104,6 @@ returns-in-None g c =
     let k = c.in_ok-entry.entry in
     let cap = g.K.Keeper.limit in
     let rs = g.K.Keeper.reps s.congruence.keeper in
-    let m = held (g.I.Index.leads s.congruence.index) in
-    let ps = vec_items s.congruence.pictures in
     let J = vec_items s.congruence.journal in
     let t1 = c.tie.new.self in
     let rs' = g.K.Keeper.reps t1.keeper in
@@ -134,18 +115,8 @@ returns-in-None g c =
     let pass = c.in_ok-entry.ensures in
     let on = passed_on cap (content s) (same-entry a b) (length t) c.picture_count.result c.entry_count.result a b c.picture_count.ensures c.entry_count.ensures (λ o. o) (λ oa ob. (oa, ob)) pass.1 in
     let ek : k ≡ length E + 1 = pass.0 ∙ ap (λ (n : ℕ). n + 1) c.entry_count.ensures in
-    let tied : Tied cap rs rs' ps ps' E m m' J J' j a b =
-    record {
-      rested = c.requires;
-      left_on = on.0;
-      right_on = on.1;
-      fits = number_new E k a b ek;
-      sheets = c.tie.ensures.sheet;
-      working = c.tie.ensures.working c.requires.working;
-      idle = c.tie.ensures.idle c.requires.working c.requires.idle;
-      grows = c.tie.ensures.grows c.requires.working;
-      meet = c.tie.ensures.joined c.requires.working;
-    } in
+    let tied = tied_in g.K.Keeper g.I.Index cap s.congruence t1 E a b k j refl ek c.requires on.0 on.1 c.tie.ensures.sheet (c.tie.ensures.working c.requires.working)
+    (c.tie.ensures.idle c.requires.working c.requires.idle) (c.tie.ensures.grows c.requires.working) (c.tie.ensures.joined c.requires.working) in
     let u : Congruence g.row.K.Denot g.row.I.Denot g.K.Keeper g.I.Index = record { keeper = c.first_broken.new.k; index = t1.index; pictures = t1.pictures; journal = t1.journal; picture_room = t1.picture_room; journal_room = t1.journal_room } in
     let same = alike_keeper g.K.Keeper t1 u c.first_broken.ensures.same refl refl refl in
     let es = vec_items s.entries in
@@ -183,7 +154,6 @@ returns-in-Some g c =
     let J = vec_items s.congruence.journal in
     let t1 = c.tie.new.self in
     let rs' = g.K.Keeper.reps t1.keeper in
-    let m' = held (g.I.Index.leads t1.index) in
     let ps' = vec_items t1.pictures in
     let J' = vec_items t1.journal in
     let E' : List Entry = E ++ same-entry a b ∷ [] in
@@ -191,18 +161,8 @@ returns-in-Some g c =
     let pass = c.in_ok-entry.ensures in
     let on = passed_on cap (content s) (same-entry a b) (length t) c.picture_count.result c.entry_count.result a b c.picture_count.ensures c.entry_count.ensures (λ o. o) (λ oa ob. (oa, ob)) pass.1 in
     let ek : k ≡ length E + 1 = pass.0 ∙ ap (λ (n : ℕ). n + 1) c.entry_count.ensures in
-    let tied : Tied cap rs rs' ps ps' E m m' J J' j a b =
-    record {
-      rested = c.requires;
-      left_on = on.0;
-      right_on = on.1;
-      fits = number_new E k a b ek;
-      sheets = c.tie.ensures.sheet;
-      working = c.tie.ensures.working c.requires.working;
-      idle = c.tie.ensures.idle c.requires.working c.requires.idle;
-      grows = c.tie.ensures.grows c.requires.working;
-      meet = c.tie.ensures.joined c.requires.working;
-    } in
+    let tied = tied_in g.K.Keeper g.I.Index cap s.congruence t1 E a b k j refl ek c.requires on.0 on.1 c.tie.ensures.sheet (c.tie.ensures.working c.requires.working)
+    (c.tie.ensures.idle c.requires.working c.requires.idle) (c.tie.ensures.grows c.requires.working) (c.tie.ensures.joined c.requires.working) in
     let u : Congruence g.row.K.Denot g.row.I.Denot g.K.Keeper g.I.Index = record { keeper = c.first_broken.new.k; index = t1.index; pictures = t1.pictures; journal = t1.journal; picture_room = t1.picture_room; journal_room = t1.journal_room } in
     let same = alike_keeper g.K.Keeper t1 u c.first_broken.ensures.same refl refl refl in
     let closes = same_closes tied in
