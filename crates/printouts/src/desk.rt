@@ -49,6 +49,7 @@ impl<K: Keeper, I: Index> Desk<K, I> {
     {
         let mut out = String::new(heap);
         let mut rest = text;
+        // Not a `for` over slice::split_inclusive: tried, and with type parameters here the prover takes no invariant over an iterator that holds a function.
         while !rest.is_empty() {
             let (line, next) = cut_line(rest);
             let reply = self.answer_line(line);
@@ -76,6 +77,7 @@ impl<K: Keeper, I: Index> Desk<K, I> {
         ensures did { Did K.Keeper.limit (content self.old.sheet) line.now.letter (line_numbers line.now) result (content self.new.sheet) }
     {
         let table = self.table.as_mut_slice();
+        // The letter is matched, not an enum: that would want a clause to tie it to the letter, and how many numbers there are would still be matched.
         match (line.letter(), line.numbers()) {
             ('p', [operation, inputs @ ..]) => self
                 .sheet
