@@ -191,7 +191,7 @@ module _ (n : ℕ) (ls : List Link) (t : Table n ls) (heir lost : ℕ) (wh : Upt
       omega arith
 
   -- the next rank is a rank
-  pub rank_fits : rank ls lost + 1 ≤ n
+  rank_fits : rank ls lost + 1 ≤ n
   rank_fits = let a = t.low lost wl in let b = some in omega arith
 
   pub link_plain : rank ls lost < rank ls heir → Table n (led ls lost heir) × (roots n (led ls lost heir) ≡ map (moved lost heir) (roots n ls))

@@ -19,64 +19,6 @@ pub struct Links {
     ghost table: { Table (pictures links.items) links.items },
 }
 
-// The end of the links from p. Each second picture on the way then skips one link (path halving).
-fn halve(links: &mut [Link], p: u16) -> u16
-    requires table { Table (pictures links.old) links.old }
-    requires on { Upto (pictures links.old) p }
-    ensures answer { result ≡ root (pictures links.old) links.old p }
-    ensures table { Table (pictures links.new) links.new }
-    ensures same { roots (pictures links.new) links.new ≡ roots (pictures links.old) links.old }
-{
-    let mut x = p;
-    loop {
-        let up = links[x as usize].parent;
-        if up == x {
-            return x;
-        }
-        let next = links[up as usize].parent;
-        links[x as usize].parent = next;
-        x = next;
-    }
-}
-
-// Links the root `lost` to the root `heir`, whose rank is then above its.
-fn link(links: &mut [Link], heir: u16, lost: u16)
-    requires few { pictures links.old ≤ 1024 }
-    requires table { Table (pictures links.old) links.old }
-    requires on { Upto (pictures links.old) heir × Upto (pictures links.old) lost }
-    requires ends { (parent links.old heir ≡ heir) × (parent links.old lost ≡ lost) }
-    requires apart { heir ≢ lost }
-    ensures table { Table (pictures links.new) links.new }
-    ensures moves { roots (pictures links.new) links.new ≡ map (moved lost heir) (roots (pictures links.old) links.old) }
-{
-    let above = links[lost as usize].rank + 1;
-    if links[heir as usize].rank < above {
-        links[heir as usize].rank = above;
-    }
-    links[lost as usize].parent = heir;
-}
-
-// Links the roots of two pictures, unless they are one: the root of lower rank to the other, so that paths stay short.
-fn unite(links: &mut [Link], p: u16, q: u16) -> Outcome
-    requires few { pictures links.old ≤ 1024 }
-    requires table { Table (pictures links.old) links.old }
-    requires on { Upto (pictures links.old) p × Upto (pictures links.old) q }
-    ensures table { Table (pictures links.new) links.new }
-    ensures did { Did p q (roots (pictures links.old) links.old) (roots (pictures links.new) links.new) result }
-{
-    let a = halve(links, p);
-    let b = halve(links, q);
-    if a == b {
-        return Outcome::Already;
-    }
-    if links[a as usize].rank < links[b as usize].rank {
-        link(links, b, a);
-    } else {
-        link(links, a, b);
-    }
-    Outcome::Merged
-}
-
 impl Links {
     // A keeper with no picture. Takes its whole memory here.
     pub fn new(heap: Global) -> Result<Self, AllocError>
@@ -99,6 +41,56 @@ impl Links {
         ensures { (result ≡ true) ↔ Upto (pictures self.now.links.items) p }
     {
         0 < p && p as usize <= self.count()
+    }
+
+    // The end of the links from p. Each second picture on the way then skips one link (path halving).
+    fn halve(&mut self, p: u16) -> u16
+        requires on { Upto (pictures self.old.links.items) p }
+        ensures answer { result ≡ root (pictures self.old.links.items) self.old.links.items p }
+        ensures same { roots (pictures self.new.links.items) self.new.links.items ≡ roots (pictures self.old.links.items) self.old.links.items }
+    {
+        let mut x = p;
+        loop {
+            let up = self.links[x as usize].parent;
+            if up == x {
+                return x;
+            }
+            let next = self.links[up as usize].parent;
+            self.links[x as usize].parent = next;
+            x = next;
+        }
+    }
+
+    // Links the root `lost` to the root `heir`, whose rank is then above its.
+    fn link(&mut self, heir: u16, lost: u16)
+        requires on { Upto (pictures self.old.links.items) heir × Upto (pictures self.old.links.items) lost }
+        requires ends { (parent self.old.links.items heir ≡ heir) × (parent self.old.links.items lost ≡ lost) }
+        requires apart { heir ≢ lost }
+        ensures moves { roots (pictures self.new.links.items) self.new.links.items ≡ map (moved lost heir) (roots (pictures self.old.links.items) self.old.links.items) }
+    {
+        let above = self.links[lost as usize].rank + 1;
+        if self.links[heir as usize].rank < above {
+            self.links[heir as usize].rank = above;
+        }
+        self.links[lost as usize].parent = heir;
+    }
+
+    // Links the roots of two pictures, unless they are one: the root of lower rank to the other, so that paths stay short.
+    fn unite(&mut self, p: u16, q: u16) -> Outcome
+        requires on { Upto (pictures self.old.links.items) p × Upto (pictures self.old.links.items) q }
+        ensures did { Did p q (roots (pictures self.old.links.items) self.old.links.items) (roots (pictures self.new.links.items) self.new.links.items) result }
+    {
+        let a = self.halve(p);
+        let b = self.halve(q);
+        if a == b {
+            return Outcome::Already;
+        }
+        if self.links[a as usize].rank < self.links[b as usize].rank {
+            self.link(b, a);
+        } else {
+            self.link(a, b);
+        }
+        Outcome::Merged
     }
 }
 
@@ -132,13 +124,13 @@ impl Keeper for Links {
         if !self.has(p) {
             return Err(KeeperFault::NoPicture);
         }
-        Ok(halve(&mut self.links, p))
+        Ok(self.halve(p))
     }
 
     fn join(&mut self, p: u16, q: u16) -> Result<Outcome, KeeperFault> {
         if !self.has(p) || !self.has(q) {
             return Err(KeeperFault::NoPicture);
         }
-        Ok(unite(&mut self.links, p, q))
+        Ok(self.unite(p, q))
     }
 }
