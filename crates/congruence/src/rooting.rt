@@ -55,7 +55,7 @@ pub fn lowest<K: Keeper>(k: &mut K, p: u16) -> u16
     p
 }
 
-// The number of classes among the pictures 1 to n.
+// The number of classes among the pictures 1 to n. Unlike classes of the keepers it is given the count, and promises the number of classes itself.
 pub fn classes<K: Keeper>(k: &mut K, n: u16) -> u16
     requires { n ≡ length (K.reps k.old) }
     ensures answer { result ≡ class_count (K.reps k.old) }

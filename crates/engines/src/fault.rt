@@ -29,6 +29,7 @@ pub enum SheetFault {
     Apart,
 }
 
+// By hand: contracts read what the conversion gives.
 impl From<KeeperFault> for SheetFault {
     ghost from_gives = { λ e f. f ≡ fault_of e };
 
@@ -55,7 +56,7 @@ impl SheetFault {
         }
     }
 
-    // Its detail: the broken entry of a contradiction, else 0.
+    // Its detail: the broken entry of a contradiction, which the variant holds, else 0.
     pub fn detail(self) -> u16
         ensures { result ≡ detail (refusal_of self) }
     {

@@ -15,7 +15,7 @@ pub enum IndexFault {
 }
 
 impl IndexFault {
-    // The number of the refusal.
+    // The number of the refusal. The fault of a keeper has one like it: two enums, each with its own numbers as discriminants.
     pub fn number(self) -> u8
         ensures { result ≡ fault_number self }
     {

@@ -4,7 +4,8 @@ ghost use Rattle.indexes.specs.Records.{lead_of};
 
 use super::record::Record;
 
-// The index that is a plain list of records, each signature once. The rules want it looked through from the front.
+// The index that is a plain list of records, each signature once. The rules want a plain list beside the chained index,
+// so it is neither sorted nor a map.
 #[derive(Drop)]
 pub struct Plain {
     records: Vec<Record>,

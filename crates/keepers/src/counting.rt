@@ -22,7 +22,8 @@ pub fn join_counted<K: Keeper>(k: &mut K, p: u16, q: u16) -> Result<u8, KeeperFa
     Ok(k.join(p, q)?.number())
 }
 
-// The number of classes among the pictures, of which the first 65,535 are looked at. The meaning stays.
+// The number of classes among the pictures, of which the first 65,535 are looked at. The meaning stays. Unlike classes of congruence it asks
+// nothing, not even that the count fits.
 pub fn classes<K: Keeper>(k: &mut K) -> u16
     ensures answer { result ≡ ends (K.reps k.old) (min (length (K.reps k.old)) 65535) }
     ensures same { K.reps k.new ≡ K.reps k.old }

@@ -12,7 +12,7 @@ pub enum KeeperFault {
 }
 
 impl KeeperFault {
-    // The number of the refusal.
+    // The number of the refusal. The fault of an index has one like it: two enums, each with its own numbers as discriminants.
     pub fn number(self) -> u8
         ensures { result ≡ fault_number self }
     {
@@ -38,6 +38,7 @@ impl Outcome {
     }
 }
 
+// That the meaning stays is a clause of each call that leaves it: it says what the call does, which no field can say.
 pub trait Keeper {
     // the capacity, one for each kind of keeper
     ghost limit: { ℕ };

@@ -77,7 +77,7 @@ impl<K: Keeper, I: Index> Desk<K, I> {
         ensures did { Did K.Keeper.limit (content self.old.sheet) line.now.letter (line_numbers line.now) result (content self.new.sheet) }
     {
         let table = self.table.as_mut_slice();
-        // The letter is matched, not an enum: that would want a clause to tie it to the letter, and how many numbers there are would still be matched.
+        // The letter is matched, not an enum: a line promises its letter and its numbers as they were read, and an enum beside them would hold both twice.
         match (line.letter(), line.numbers()) {
             ('p', [operation, inputs @ ..]) => self
                 .sheet

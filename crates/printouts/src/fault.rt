@@ -25,6 +25,7 @@ pub enum LineFault {
     Sheet(SheetFault),
 }
 
+// By hand, as the next: contracts read what the conversion gives.
 impl From<NumberFault> for LineFault {
     ghost from_gives = { λ e r. r ≡ Number e };
 
@@ -52,7 +53,7 @@ impl NumberFault {
         }
     }
 
-    // The detail of the refusal: the place.
+    // The detail of the refusal: the place, which the variant holds.
     pub fn detail(self) -> usize
         ensures { result ≡ number_fault_detail self }
     {
@@ -63,7 +64,7 @@ impl NumberFault {
 }
 
 impl LineFault {
-    // The number of the refusal.
+    // The number of the refusal. It is matched, since the variants hold the fault that tells it.
     pub fn number(self) -> u8
         ensures { result ≡ line_fault_number self }
     {
@@ -74,7 +75,7 @@ impl LineFault {
         }
     }
 
-    // The detail of the refusal.
+    // The detail of the refusal. It is matched, since the variants hold the place, or the fault that tells it.
     pub fn detail(self) -> usize
         ensures { result ≡ line_fault_detail self }
     {

@@ -1,6 +1,6 @@
 use rows::Row;
 
-// A line that was read.
+// A line that was read. The letter is a char and no enum: a line promises its letter and its numbers as they were read.
 #[derive(Clone, Copy)]
 pub struct Line {
     pub(crate) letter: char,

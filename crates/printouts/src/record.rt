@@ -19,6 +19,7 @@ pub fn print_record<K: Keeper + Drop, I: Index + Drop>(
 ) -> Result<String, AllocError>
     ensures { IfOk result (λ s. Printout K.Keeper.limit text.now (string_bytes s)) }
 {
+    // The rules fix this record; it is no fault of a line, so no variant of `LineFault` prints it.
     if text.len() > LONGEST {
         return String::from_str(heap, "no 9 0\n");
     }

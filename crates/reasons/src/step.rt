@@ -5,8 +5,8 @@ ghost use Rattle.std.proofs.Common.{refl};
 use chains::Linked;
 use congruence::{Cause, Join};
 
-// A cell of the host's step table. Cells are numbered from 1, and next is the cell of the next step, 0 at the last. The rules fix the kinds 1 and 2 as
-// numbers, since a host reads them.
+// A cell of the host's step table. Cells are numbered from 1, and next is the cell of the next step, 0 at the last. The rules fix the kinds 1 and 2,
+// and the 0 at the last, as numbers, since a host reads them.
 #[derive(Clone, Copy, PartialEq, Eq, Debug, Default)]
 pub struct Step {
     pub kind: u8,

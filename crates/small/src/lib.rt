@@ -1,5 +1,5 @@
 // A class keeper for sixteen pictures that lies in one array: an example of a keeper of your own. Its calls are written out, though those of `Relabel` are
-// like them, so that it can be read alone.
+// like them, so that an example of a keeper shows every call; one that is generic over the array and the Vec would be no plainer.
 #![tactic(auto)]
 
 ghost use Rattle.std.specs.Prelude.{◌≡◌, []};

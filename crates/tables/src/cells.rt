@@ -1,6 +1,7 @@
 use engines::Step;
 
-// What every cell of a table holds before the calls. No step has this kind.
+// What every cell of a table holds before the calls. No step has this kind. It is no `Step::default()`, as which a cell
+// that a call cleared would pass for one left alone.
 const MARK: Step = Step {
     kind: 99,
     left: 0,

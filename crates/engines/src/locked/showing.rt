@@ -47,7 +47,7 @@ impl<K: Keeper, I: Index> Locked<K, I> {
         self.sheet.value_of(p)
     }
 
-    // The value of a picture with this operation whose inputs have these values in order, or 0 where there is none.
+    // The value of a picture with this operation whose inputs have these values in order, or 0 where there is none, as the rules fix it.
     pub fn apply(&mut self, op: u16, numbers: &[u16]) -> Result<u16, SheetFault>
         requires { WholeLocked K.Keeper I.Index self.old }
         ensures whole { WholeLocked K.Keeper I.Index self.new }

@@ -19,6 +19,7 @@ use indexes::Index;
 use keepers::Keeper;
 use reasons::{Question, Step};
 
+// That the content stays is a clause of each call: it says what the call does, which no field can say.
 impl<K: Keeper, I: Index> Open<K, I> {
     // Whether two pictures are in one class. Nothing of what the sheet means changes.
     pub fn must(&mut self, a: u16, b: u16) -> Result<bool, SheetFault>

@@ -28,7 +28,8 @@ pub fn check_pair(n: usize, a: u16, b: u16) -> Result<(), SheetFault>
     Ok(())
 }
 
-// The checks of an entry before the one for a contradiction, by numbers alone, so that they can be read without a sheet: on a sheet of n pictures and so many entries taken. Answers the number it would have.
+// The checks of an entry before the one for a contradiction, on a sheet of n pictures and so many entries taken. Answers the number it would have. The numbers
+// are given one by one: the clauses of a method would name the same numbers through the sheet, and be no plainer.
 pub fn check_entry(cells: usize, n: usize, taken: usize, a: u16, b: u16) -> Result<u16, SheetFault>
     ensures { MatchResult result (λ k. (k ≡ taken + 1) × Passed cells n taken a b) (λ e. Stopped cells n taken a b e) }
 {

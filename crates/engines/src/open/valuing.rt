@@ -80,7 +80,7 @@ impl<K: Keeper, I: Index> Open<K, I> {
         Ok(self.lowest_of(p))
     }
 
-    // The value that an operation has for these values, for a sheet that is locked.
+    // The value that an operation has for these values, for a sheet that is locked; 0 where there is none, as the rules fix it.
     pub(crate) fn value_for(&mut self, op: u16, numbers: &[u16]) -> Result<u16, SheetFault>
         requires { Whole K.Keeper I.Index self.old }
         ensures whole { Whole K.Keeper I.Index self.new }
