@@ -1,6 +1,6 @@
 ghost use Rattle.std.specs.Prelude.{◌==◌, refl};
 
-use chains::{Found, Linked, Test, append, push, thread, unlink, walk};
+use chains::{ChainFault, Found, Linked, Test, append, push, thread, unlink, walk};
 
 // A record that has nothing but a next and a name.
 #[derive(Clone, Copy)]
@@ -41,13 +41,9 @@ impl Test<Bead> for Named {
     }
 }
 
-// Where a walk comes to, as a number: the cell, 0 for the end, 99 for a broken chain.
-fn seek(cells: &[Bead], head: u16, name: u16) -> u16 {
-    match walk(cells, head, &Named(name)) {
-        Ok(Some(found)) => found.cell,
-        Ok(None) => 0,
-        Err(_) => 99,
-    }
+// The cell of the first bead of this name.
+fn seek(cells: &[Bead], head: u16, name: u16) -> Result<Option<u16>, ChainFault> {
+    Ok(walk(cells, head, &Named(name))?.map(|found| found.cell))
 }
 
 #[test]
@@ -57,20 +53,17 @@ fn beads(rt: HostRuntime) {
         Bead { name: 20, next: 0 },
         Bead { name: 30, next: 0 },
     ];
-    assert_eq!(rt; thread(&mut cells, 2).unwrap_or(99), 1);
-    assert_eq!(rt; seek(&cells, 1, 20), 2);
-    assert_eq!(rt; seek(&cells, 1, 30), 0);
-    assert_eq!(rt; append(&mut cells, 1, 2, 3).unwrap_or(99), 1);
-    assert_eq!(rt; seek(&cells, 1, 30), 3);
-    assert_eq!(rt;
-        unlink(&mut cells, 1, Found { before: 1, cell: 2 }).unwrap_or(99),
-        1
-    );
-    assert_eq!(rt; seek(&cells, 1, 20), 0);
-    assert_eq!(rt; seek(&cells, 1, 30), 3);
-    assert_eq!(rt; push(&mut cells, 1, 2).unwrap_or(99), 2);
-    assert_eq!(rt; seek(&cells, 2, 10), 1);
+    assert_eq!(rt; thread(&mut cells, 2), Ok(1));
+    assert_eq!(rt; seek(&cells, 1, 20), Ok(Some(2)));
+    assert_eq!(rt; seek(&cells, 1, 30), Ok(None));
+    assert_eq!(rt; append(&mut cells, 1, 2, 3), Ok(1));
+    assert_eq!(rt; seek(&cells, 1, 30), Ok(Some(3)));
+    assert_eq!(rt; unlink(&mut cells, 1, Found { before: 1, cell: 2 }), Ok(1));
+    assert_eq!(rt; seek(&cells, 1, 20), Ok(None));
+    assert_eq!(rt; seek(&cells, 1, 30), Ok(Some(3)));
+    assert_eq!(rt; push(&mut cells, 1, 2), Ok(2));
+    assert_eq!(rt; seek(&cells, 2, 10), Ok(Some(1)));
     assert!(rt; push(&mut cells, 1, 4).is_err());
     assert!(rt; thread(&mut cells, 4).is_err());
-    assert_eq!(rt; seek(&cells, 7, 10), 99);
+    assert_eq!(rt; seek(&cells, 7, 10), Err(ChainFault::Broken));
 }

@@ -70,17 +70,17 @@ fn fill<K: Keeper>(rt: &impl Abort, k: &mut K) {
     for _ in 0..K::capacity() {
         assert!(rt; k.grow().is_ok());
     }
-    assert_eq!(rt; answer(k, Call::Grow), 103);
-    assert_eq!(rt; answer(k, Call::Join(1, K::capacity())), 1);
+    assert_eq!(rt; k.grow(), Err(KeeperFault::Full));
+    assert_eq!(rt; join_counted(k, 1, K::capacity()), Ok(1));
 }
 
 // Pictures that are each alone again, and no more than the capacity.
 fn refill<K: Keeper>(rt: &impl Abort, k: &mut K) {
     assert_eq!(rt; populate(k, 3), Ok(()));
-    assert_eq!(rt; answer(k, Call::Classes), 3);
-    assert_eq!(rt; answer(k, Call::Same(1, 3)), 0);
+    assert_eq!(rt; classes(k), 3);
+    assert_eq!(rt; is_same(k, 1, 3), Ok(false));
     assert_eq!(rt; populate(k, 5000), Err(KeeperFault::Full));
-    assert_eq!(rt; answer(k, Call::Classes), K::capacity());
+    assert_eq!(rt; classes(k), K::capacity());
 }
 
 #[test]
