@@ -1,5 +1,5 @@
 -- What stands between two joins is enough to put twins together. Assumes nothing.
-use Rattle.std.proofs.Common.{◌≡◌, ℕ, ◌+◌, ◌<◌, ◌≤◌, true, ◌≢◌, List, [], ◌∷◌, ◌++◌, length, vec_items, All, Option, sym, ap, ◌∙◌, subst, subst₂, arith}
+use Rattle.std.proofs.Common.{◌≡◌, ℕ, ◌+◌, ◌<◌, ◌≤◌, true, ◌≢◌, List, [], ◌∷◌, ◌++◌, length, vec_items, vec_capacity, All, Option, sym, ap, ◌∙◌, subst, subst₂, arith}
 use Rattle.std.proofs.lemmas.List.Elements.{All-weaker, All-nil, All-push, All-cons, All-head, All-tail}
 use Rattle.std.proofs.lemmas.List.{length-map, length_push}
 use Rattle.theory.specs.Sheet.{Picture, On, Ordered}
@@ -63,13 +63,14 @@ ready_counted rs ps r =
           (All-weaker (On (sheet ps)) (Upto (length ps)) (λ i o. (o.0, omega (arith, o.1, n))) _ (inputs_on (sheet ps) r.ordered (k + 1) (omega arith, omega (arith, n, l))));
     }
 
-pub works_holds : {X Y : Type 0} (kept : Kept X) (found : Found Y) (c : Congruence X Y kept found) → Settled (kept.reps c.keeper) → Works kept found c → Holds kept found c
-works_holds kept found c s w =
+pub works_holds : {X Y : Type 0} (kept : Kept X) (found : Found Y) (c : Congruence X Y) → Settled (kept.reps c.keeper) → 1024 ≤ vec_capacity c.journal → Works kept found c → Holds kept found c
+works_holds kept found c s r w =
     let n = length-map (vec_items c.pictures) drawn in
     record {
       counted = ready_counted (kept.reps c.keeper) (vec_items c.pictures) w.ready;
       inward = λ o v q h. let b = w.going.posted.bears o v q h in (b.0.0, omega (arith, b.0.1, n));
       booked = books_booked (kept.reps c.keeper) (sheet (vec_items c.pictures)) (vec_items c.journal) s w.ready.counted w.books;
+      room = r;
     }
 
 -- one picture more

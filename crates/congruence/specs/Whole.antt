@@ -1,5 +1,5 @@
 -- What holds of pictures and the classes that their joins force, whatever their keeper and index are. Assumes nothing.
-use Rattle.std.specs.Prelude.{◌≡◌, ℕ, ◌+◌, ◌≢◌, List, [], ◌∷◌, ◌++◌, length, vec_items, Ok, Err, Result}
+use Rattle.std.specs.Prelude.{◌≡◌, ℕ, ◌+◌, ◌≤◌, ◌≢◌, List, [], ◌∷◌, ◌++◌, length, vec_items, vec_capacity, Ok, Err, Result}
 use Rattle.keepers.specs.declared.keeper.Keeper.{Ghosts as Kept}
 use Rattle.keepers.specs.declared.keeper.KeeperFault.{KeeperFault}
 use Rattle.keepers.specs.declared.keeper.KeeperFault.TheVariants.{Full}
@@ -11,24 +11,25 @@ use Rattle.congruence.specs.Working.{Counted, Inward, Booked, Progress}
 use Rattle.congruence.specs.Waiting.{Working}
 
 -- classes, journal, pictures and index stand as they do between two joins
-abbrev pub Works : {X Y : Type 0} (kept : Kept X) (found : Found Y) → Congruence X Y kept found → Type 0
+abbrev pub Works : {X Y : Type 0} (kept : Kept X) (found : Found Y) → Congruence X Y → Type 0
 Works kept found c = Working (kept.reps c.keeper) (vec_items c.pictures) (held (found.leads c.index)) (vec_items c.journal)
 
--- the least that twins can be put together with: it speaks of numbers only
-pub record Holds {X Y : Type 0} (kept : Kept X) (found : Found Y) (c : Congruence X Y kept found) : Type 0 where
+-- the least that twins can be put together with: it speaks of numbers only, and of room for as many joins as pictures can cost
+pub record Holds {X Y : Type 0} (kept : Kept X) (found : Found Y) (c : Congruence X Y) : Type 0 where
   pub counted : Counted (kept.reps c.keeper) (vec_items c.pictures)
   pub inward : Inward (length (vec_items c.pictures)) (held (found.leads c.index))
   pub booked : Booked (kept.reps c.keeper) (length (vec_items c.journal))
+  pub room : 1024 ≤ vec_capacity c.journal
 
 -- c' means what c means: the representatives, the index, the pictures and the journal are the same
-pub record Alike {X Y : Type 0} (kept : Kept X) {found : Found Y} (c c' : Congruence X Y kept found) : Type 0 where
+pub record Alike {X Y : Type 0} (kept : Kept X) (c c' : Congruence X Y) : Type 0 where
   pub reps : kept.reps c'.keeper ≡ kept.reps c.keeper
   pub index : c'.index ≡ c.index
   pub pictures : c'.pictures ≡ c.pictures
   pub journal : c'.journal ≡ c.journal
 
 -- one picture more, of the operation o with the inputs w: its number is answered, and it stands behind the others; or the keeper is full, and nothing changed
-abbrev pub DrawnOne : {X Y : Type 0} (kept : Kept X) {found : Found Y} → ℕ → List ℕ → Congruence X Y kept found → Congruence X Y kept found → Result ℕ KeeperFault → Type 0
+abbrev pub DrawnOne : {X Y : Type 0} (kept : Kept X) → ℕ → List ℕ → Congruence X Y → Congruence X Y → Result ℕ KeeperFault → Type 0
 DrawnOne kept o w c c' (Ok n) =
     (length (kept.reps c.keeper) ≢ kept.limit)
     × (n ≡ length (kept.reps c.keeper) + 1)

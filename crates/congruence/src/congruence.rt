@@ -1,5 +1,3 @@
-ghost use Rattle.std.specs.Prelude.{◌≤◌, vec_capacity};
-
 use crate::journal::Join;
 use crate::picture::Picture;
 use indexes::Index;
@@ -15,8 +13,6 @@ pub struct Congruence<K: Keeper, I: Index> {
     pub index: I,
     pub pictures: Vec<Picture>,
     pub journal: Vec<Join>,
-    ghost picture_room: { 1024 ≤ vec_capacity pictures },
-    ghost journal_room: { 1024 ≤ vec_capacity journal },
 }
 
 // what it is put together from, and one picture more

@@ -7,6 +7,8 @@ pub mod picture;
 pub mod journal;
 // representatives of pictures and of rows
 pub mod rooting;
+// how many joins put two pictures together
+pub mod reaching;
 // pictures and the classes that their joins force
 pub mod congruence;
 

@@ -60,7 +60,7 @@ pub record Tied (cap : ℕ) (rs rs' : List ℕ) (ps ps' : List Held) (E : List E
   pub meet : rep rs' a ≡ rep rs' b
 
 -- so it is where a congruence that rested has tied the entry in
-pub tied_in : {X Y : Type 0} (kept : Kept X) (found : Found Y) (cap : ℕ) (c c' : Congruence X Y kept found) (E : List Entry) (a b k : ℕ) (j : Join) → reason_of j ≡ by_entry a b k → k ≡ length E + 1 →
+pub tied_in : {X Y : Type 0} (kept : Kept X) (found : Found Y) (cap : ℕ) (c c' : Congruence X Y) (E : List Entry) (a b k : ℕ) (j : Join) → reason_of j ≡ by_entry a b k → k ≡ length E + 1 →
     Rests cap (kept.reps c.keeper) (vec_items c.pictures) E (held (found.leads c.index)) (vec_items c.journal) → On (sheet (vec_items c.pictures)) a → On (sheet (vec_items c.pictures)) b →
     sheet (vec_items c'.pictures) ≡ sheet (vec_items c.pictures) → Works kept found c' → Idle (vec_items c'.pictures) →
     Grows (sheet (vec_items c.pictures)) (λ F. Fits (sheet (vec_items c.pictures)) F (reasons (vec_items c.journal)) (reason_of j)) (vec_items c.journal) (vec_items c'.journal) → rep (kept.reps c'.keeper) a ≡ rep (kept.reps c'.keeper) b →

@@ -16,6 +16,8 @@ pub struct Open<K: Keeper, I: Index> {
     explainer: Explainer<Links>,
     ghost few: { vec_len entries ≤ 2048 },
     ghost entry_room: { 2048 ≤ vec_capacity entries },
+    ghost picture_room: { 1024 ≤ vec_capacity congruence.pictures },
+    ghost journal_room: { 1024 ≤ vec_capacity congruence.journal },
 }
 
 // the checks of the calls

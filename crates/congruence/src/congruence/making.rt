@@ -18,6 +18,7 @@ impl<K: Keeper + Drop, I: Index + Drop> Congruence<K, I> {
     pub fn new(heap: Global, mut keeper: K, mut index: I) -> Result<Congruence<K, I>, AllocError>
         ensures works { IfOk result (λ c. Works K.Keeper I.Index c) }
         ensures empty { IfOk result (λ c. (c.pictures.items ≡ []) × (c.journal.items ≡ [])) }
+        ensures room { IfOk result (λ c. (1024 ≤ vec_capacity c.pictures) × (1024 ≤ vec_capacity c.journal)) }
     {
         keeper.reset();
         index.reset();
@@ -38,7 +39,9 @@ impl<K: Keeper, I: Index> Congruence<K, I> {
         requires holds { Holds K.Keeper I.Index self.old }
         requires fed { All (Upto (length self.old.pictures.items)) (cells_of inputs) }
         requires few { length self.old.pictures.items < 1024 }
+        requires room { vec_len self.old.pictures < vec_capacity self.old.pictures }
         ensures holds { Holds K.Keeper I.Index self.new }
+        ensures space { (vec_capacity self.new.pictures ≡ vec_capacity self.old.pictures) × (vec_capacity self.new.journal ≡ vec_capacity self.old.journal) }
         ensures drawn { DrawnOne K.Keeper op (cells_of inputs) self.old self.new result }
         ensures working { Works K.Keeper I.Index self.old → Works K.Keeper I.Index self.new }
         ensures idle { Works K.Keeper I.Index self.old → Idle self.old.pictures.items → Idle self.new.pictures.items }

@@ -47,6 +47,7 @@ impl<K: Keeper, I: Index> Congruence<K, I> {
         ensures joined { rep (K.reps self.new.keeper) join.left ≡ rep (K.reps self.new.keeper) join.right }
         ensures items { self.new.journal.items ≡ self.old.journal.items ++ join ∷ [] }
         ensures space { vec_capacity self.new.journal ≡ vec_capacity self.old.journal }
+        ensures places { vec_capacity self.new.pictures ≡ vec_capacity self.old.pictures }
         ensures sheet { sheet self.new.pictures.items ≡ sheet self.old.pictures.items }
         ensures inward { (n : ℕ) → Inward n (held (I.leads self.old.index)) → Inward n (held (I.leads self.new.index)) }
         ensures working { Works K.Keeper I.Index self.old → Works K.Keeper I.Index self.new }

@@ -49,8 +49,10 @@ impl<K: Keeper, I: Index> Congruence<K, I> {
         requires limit { length self.old.pictures.items ≤ K.limit }
         requires placed { All (Placed (sheet self.old.pictures.items)) (take to self.old.journal.items) }
         requires fresh { Fresh (sheet self.old.pictures.items) (take to self.old.journal.items) }
+        requires room { 1024 ≤ vec_capacity self.old.journal }
         ensures holds { Holds K.Keeper I.Index self.new }
         ensures space { vec_capacity self.new.journal ≡ vec_capacity self.old.journal }
+        ensures places { vec_capacity self.new.pictures ≡ vec_capacity self.old.pictures }
         ensures sheet { sheet self.new.pictures.items ≡ sheet self.old.pictures.items }
         ensures working { Ordered (sheet self.old.pictures.items) → Works K.Keeper I.Index self.new }
         ensures idle { Ordered (sheet self.old.pictures.items) → Idle self.new.pictures.items }

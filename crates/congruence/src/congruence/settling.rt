@@ -64,6 +64,7 @@ impl<K: Keeper, I: Index> Congruence<K, I> {
         requires { Holds K.Keeper I.Index self.old }
         ensures same { K.reps self.new.keeper ≡ K.reps self.old.keeper }
         ensures journal { self.new.journal ≡ self.old.journal }
+        ensures places { vec_capacity self.new.pictures ≡ vec_capacity self.old.pictures }
         ensures sheet { sheet self.new.pictures.items ≡ sheet self.old.pictures.items }
         ensures inward { Inward (length self.old.pictures.items) (held (I.leads self.new.index)) }
         ensures found { IfSome result (λ j. Apart (K.reps self.old.keeper) j) }
@@ -94,6 +95,7 @@ impl<K: Keeper, I: Index> Congruence<K, I> {
         ensures holds { Holds K.Keeper I.Index self.new }
         ensures progress { Progress (K.reps self.old.keeper) (K.reps self.new.keeper) (length self.old.journal.items) (length self.new.journal.items) }
         ensures space { vec_capacity self.new.journal ≡ vec_capacity self.old.journal }
+        ensures places { vec_capacity self.new.pictures ≡ vec_capacity self.old.pictures }
         ensures sheet { sheet self.new.pictures.items ≡ sheet self.old.pictures.items }
         ensures working { Works K.Keeper I.Index self.old → Works K.Keeper I.Index self.new }
         ensures idle { Works K.Keeper I.Index self.old → Idle self.new.pictures.items }
@@ -111,6 +113,7 @@ impl<K: Keeper, I: Index> Congruence<K, I> {
         ensures holds { Holds K.Keeper I.Index self.new }
         ensures progress { Progress (K.reps self.old.keeper) (K.reps self.new.keeper) (length self.old.journal.items) (length self.new.journal.items) }
         ensures space { vec_capacity self.new.journal ≡ vec_capacity self.old.journal }
+        ensures places { vec_capacity self.new.pictures ≡ vec_capacity self.old.pictures }
         ensures sheet { sheet self.new.pictures.items ≡ sheet self.old.pictures.items }
         ensures working { Works K.Keeper I.Index self.old → Works K.Keeper I.Index self.new }
         ensures idle { Works K.Keeper I.Index self.old → Idle self.old.pictures.items → Idle self.new.pictures.items }

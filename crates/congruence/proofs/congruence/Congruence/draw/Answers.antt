@@ -23,6 +23,7 @@ settle-requires g c =
       counted = subst (Counted us) (sym pushed) (grown_counted rs us ps h n c.requires.holds.counted c.requires.few e c.requires.fed);
       inward = grown_inward (length ps) (length (vec_items c.push_reserved.new.self)) (held (g.I.Index.leads s.index)) (omega (arith, ap length pushed, length_push ps h)) c.requires.holds.inward;
       booked = grown_booked rs us n (length (vec_items s.journal)) e c.requires.holds.booked;
+      room = c.requires.holds.room;
     }
 
 pub returns-clause-working : goal.returns-clause-working

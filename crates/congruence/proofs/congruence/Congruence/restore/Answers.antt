@@ -1,4 +1,4 @@
-use Rattle.std.proofs.Common.{length, vec_items, sym, ap, ◌∙◌, subst}
+use Rattle.std.proofs.Common.{ℕ, ◌≤◌, length, vec_items, sym, ap, ◌∙◌, subst}
 use Rattle.std.proofs.lemmas.List.{with_items_is}
 use Rattle.theory.specs.Sheet.{Ordered}
 use Rattle.congruence.specs.Drawn.{sheet}
@@ -22,6 +22,7 @@ settle-requires g c =
       counted = restored_counted rs us c.deref.result.now c.deref_mut.result.now ws _ c.deref-2.result.now (vec_items c.truncate.new.self) es v.counted v.books is ej back n.same n.sheet c.reset.ensures;
       inward = empty_inward _ es c.reset.ensures;
       booked = restored_booked rs us c.deref.result.now c.deref_mut.result.now ws _ c.deref-2.result.now (vec_items c.truncate.new.self) es v.counted v.books is ej back n.same n.sheet c.reset.ensures (g.met.K.Keeper.settled c.replay.new.k);
+      room = subst (λ (x : ℕ). 1024 ≤ x) (sym c.truncate.ensures.capacity) c.requires.room;
     }
 
 pub returns-clause-working : goal.returns-clause-working

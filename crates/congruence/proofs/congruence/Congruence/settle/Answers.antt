@@ -1,4 +1,4 @@
-use Rattle.std.proofs.Common.{ℕ, List, [], ◌∷◌, ◌++◌, length, vec_items, vec_capacity, sym, ap, ◌∙◌, subst, subst₂, arith}
+use Rattle.std.proofs.Common.{ℕ, ◌≤◌, List, [], ◌∷◌, ◌++◌, length, vec_items, vec_capacity, sym, ap, ◌∙◌, subst, subst₂, arith}
 use Rattle.theory.specs.Sheet.{Picture}
 use Rattle.keepers.specs.Meaning.{rep, Unites}
 use Rattle.indexes.specs.Meaning.{held}
@@ -17,7 +17,7 @@ merge-requires-clause-room g c =
     let t = c.sweep.new.self in
     let h = c.loop-join.invariant.holds in
     let r = apart_room c.in-Some.join (length (vec_items s.journal)) (g.K.Keeper.reps s.keeper) (g.met.K.Keeper.settled s.keeper) c.in-Some.ensures.found h.booked in
-    omega (arith, r, h.counted.counted, h.counted.few, t.journal_room, t.journal.ok.0, ap (λ j. length (vec_items j)) c.sweep.ensures.journal)
+    omega (arith, r, h.counted.counted, h.counted.few, h.room, ap vec_capacity c.sweep.ensures.journal, t.journal.ok.0, ap (λ j. length (vec_items j)) c.sweep.ensures.journal)
 
 pub loop-join-smaller : goal.loop-join-smaller
 loop-join-smaller g c =
@@ -45,9 +45,11 @@ loop-join-preserved g c =
         counted = o.0;
         inward = subst (λ (n : ℕ). Inward n (held (g.I.Index.leads to.index))) (sym (sheet_length (vec_items s.pictures) (vec_items to.pictures) ep)) (c.merge.ensures.inward _ c.sweep.ensures.inward);
         booked = o.1;
+        room = subst (λ (x : ℕ). 1024 ≤ x) (sym (c.merge.ensures.space ∙ ap vec_capacity c.sweep.ensures.journal)) v.holds.room;
       };
       progress = progress_then _ _ _ _ _ _ v.progress o.2;
       space = c.merge.ensures.space ∙ (ap (λ x. vec_capacity x) c.sweep.ensures.journal ∙ v.space);
+      places = c.merge.ensures.places ∙ (c.sweep.ensures.places ∙ v.places);
       same = ep ∙ v.same;
       works = λ w.
           let h = v.works w in
@@ -69,4 +71,5 @@ returns-clause-holds g c =
       counted = counted_again (k.reps s.keeper) (k.reps to.keeper) (vec_items s.pictures) (vec_items to.pictures) v.holds.counted (ap length c.sweep.ensures.same) e;
       inward = subst (λ (n : ℕ). Inward n (held (g.I.Index.leads to.index))) (sym (sheet_length (vec_items s.pictures) (vec_items to.pictures) e)) c.sweep.ensures.inward;
       booked = subst₂ (λ (rs : List ℕ) (J : List Join). Booked rs (length J)) (sym c.sweep.ensures.same) (sym (ap (λ x. vec_items x) c.sweep.ensures.journal)) v.holds.booked;
+      room = subst (λ (x : ℕ). 1024 ≤ x) (sym (ap vec_capacity c.sweep.ensures.journal)) v.holds.room;
     }

@@ -14,6 +14,7 @@ invariant-loop-join g l =
       holds : Holds kept found l.self;
       progress : Progress (kept.reps s.keeper) (kept.reps l.self.keeper) (length (vec_items s.journal)) (length (vec_items l.self.journal));
       space : vec_capacity l.self.journal ≡ vec_capacity s.journal;
+      places : vec_capacity l.self.pictures ≡ vec_capacity s.pictures;
       same : sheet (vec_items l.self.pictures) ≡ sheet (vec_items s.pictures);
       works : Works kept found s → Works kept found l.self × Grows (sheet (vec_items s.pictures)) Any (vec_items s.journal) (vec_items l.self.journal);
     }

@@ -63,6 +63,7 @@ loop-p-preserved g c =
     record {
       same = c.look.ensures.same ∙ v.same;
       journal = v.journal;
+      places = v.places;
       drawn = sheet_set qs (l.p - 1) h new is e ∙ v.drawn;
       inward = λ o u q b. let k = c.look.ensures.inward o u q b in (k.0, omega (arith, k.1, ap length v.same, c.requires.counted.counted));
       works = λ w.

@@ -1,4 +1,4 @@
-use Rattle.std.proofs.Common.{◌≡◌, ℕ, ◌<◌, ◌≤◌, false, length, vec_items}
+use Rattle.std.proofs.Common.{◌≡◌, ℕ, ◌<◌, ◌≤◌, false, length, vec_items, vec_capacity}
 use Rattle.keepers.specs.Meaning.{rep}
 use Rattle.indexes.specs.Meaning.{held}
 use Rattle.congruence.specs.Drawn.{sheet}
@@ -15,6 +15,7 @@ invariant-loop-p g l =
     record {
       same : reps l.self.keeper ≡ reps l.initial.self.keeper;
       journal : l.self.journal ≡ l.initial.self.journal;
+      places : vec_capacity l.self.pictures ≡ vec_capacity l.initial.self.pictures;
       drawn : sheet ps ≡ sheet (vec_items l.initial.self.pictures);
       inward : Inward (length (vec_items l.initial.self.pictures)) m;
       works : Works g.K.Keeper g.I.Index l.initial.self → Going (rep (reps l.initial.self.keeper)) ps m × ((q : ℕ) → 1 ≤ q → q < l.p → waits ps q ≡ false);

@@ -1,4 +1,4 @@
-use Rattle.std.proofs.Common.{ℕ, List, length, vec_items, sym, ◌∙◌, subst, arith}
+use Rattle.std.proofs.Common.{ℕ, ◌≤◌, List, length, vec_items, sym, ◌∙◌, subst, arith}
 use Rattle.std.proofs.lemmas.Bool.{eqb-false}
 use Rattle.theory.specs.Sheet.{Picture, Entry}
 use Rattle.theory.specs.Reasons.{Fits}
@@ -18,7 +18,7 @@ merge-requires-clause-room g c =
     let h = c.requires.holds in
     let a = pair_apart rs (vec_items s.pictures) c.args.join h.counted c.requires.on.0 c.requires.on.1 (eqb-false _ _ (sym c.together.ensures.answer ∙ c.if-together.false)) in
     let r = apart_room c.args.join (length (vec_items s.journal)) rs (g.met.K.Keeper.settled s.keeper) a h.booked in
-    omega (arith, r, h.counted.counted, h.counted.few, s.journal_room, s.journal.ok.0)
+    omega (arith, r, h.counted.counted, h.counted.few, h.room, s.journal.ok.0)
 
 pub settle-requires : goal.settle-requires
 settle-requires g c =
@@ -33,6 +33,7 @@ settle-requires g c =
       counted = o.0;
       inward = subst (λ (n : ℕ). Inward n (held (g.I.Index.leads to.index))) (sym (sheet_length (vec_items s.pictures) (vec_items to.pictures) c.merge.ensures.sheet)) (c.merge.ensures.inward _ h.inward);
       booked = o.1;
+      room = subst (λ (x : ℕ). 1024 ≤ x) (sym c.merge.ensures.space) h.room;
     }
 
 pub returns-clause-progress : goal.returns-clause-progress

@@ -48,9 +48,10 @@ draw-requires g c =
     let on : All (On (pictures_on s)) (cells_of c.in-Some.row) =
     subst (All (On (pictures_on s))) (sym c.in-Some.ensures.0) (on_all g.K.Keeper.limit (content s) c.args.op c.picture_count-n.result c.args.inputs.now c.picture_count-n.ensures c.in-Some.ensures.1 (sym c.if-any_missing.ensures)) in
     record {
-      holds = works_holds g.K.Keeper g.I.Index s.congruence (g.met.K.Keeper.settled s.congruence.keeper) c.requires.working;
+      holds = works_holds g.K.Keeper g.I.Index s.congruence (g.met.K.Keeper.settled s.congruence.keeper) s.journal_room c.requires.working;
       fed = All-weaker (On (pictures_on s)) (Upto (length ps)) (λ p o. (o.0, omega (arith, o.1, l))) (cells_of c.in-Some.row) on;
       few = omega (arith, c.if-n-ge1024.false, c.picture_count-n.ensures, l);
+      room = omega (arith, c.if-n-ge1024.false, c.picture_count-n.ensures, l, s.congruence.pictures.ok.0, s.picture_room);
     }
 
 pub returns-in_err-number : goal.returns-in_err-number

@@ -45,7 +45,7 @@ tie-requires g c =
     let on = passed_on g.K.Keeper.limit (content s) (same-entry c.args.a c.args.b) (length c.args.table.now) c.picture_count.result c.entry_count.result c.args.a c.args.b c.picture_count.ensures c.entry_count.ensures (λ o. o) (λ oa ob. (oa, ob)) pass.1 in
     let l = length-map (vec_items s.congruence.pictures) drawn in
     record {
-      holds = works_holds g.K.Keeper g.I.Index s.congruence (g.met.K.Keeper.settled s.congruence.keeper) c.requires.working;
+      holds = works_holds g.K.Keeper g.I.Index s.congruence (g.met.K.Keeper.settled s.congruence.keeper) s.journal_room c.requires.working;
       on = ((on.0.0, omega (arith, on.0.1, l)), (on.1.0, omega (arith, on.1.1, l)));
     }
 
@@ -83,7 +83,7 @@ withdraw-steps-requires g c =
     let ek : k ≡ length E + 1 = pass.0 ∙ ap (λ (n : ℕ). n + 1) c.entry_count.ensures in
     let tied = tied_in g.K.Keeper g.I.Index cap s.congruence t1 E a b k j refl ek c.requires on.0 on.1 c.tie.ensures.sheet (c.tie.ensures.working c.requires.working)
     (c.tie.ensures.idle c.requires.working c.requires.idle) (c.tie.ensures.grows c.requires.working) (c.tie.ensures.joined c.requires.working) in
-    let u : Congruence g.row.K.Denot g.row.I.Denot g.K.Keeper g.I.Index = record { keeper = c.first_broken.new.k; index = t1.index; pictures = t1.pictures; journal = t1.journal; picture_room = t1.picture_room; journal_room = t1.journal_room } in
+    let u : Congruence g.row.K.Denot g.row.I.Denot = record { keeper = c.first_broken.new.k; index = t1.index; pictures = t1.pictures; journal = t1.journal } in
     let same = alike_keeper g.K.Keeper t1 u c.first_broken.ensures.same refl refl refl in
     let fresh : Fresh (sheet ps') J' = derived_fresh (sheet ps') E' J' (subst (λ Q. Derivation Q E' [] (reasons J')) (sym tied.sheets) (same_derived tied)) in
     record {
@@ -117,7 +117,7 @@ returns-in-None g c =
     let ek : k ≡ length E + 1 = pass.0 ∙ ap (λ (n : ℕ). n + 1) c.entry_count.ensures in
     let tied = tied_in g.K.Keeper g.I.Index cap s.congruence t1 E a b k j refl ek c.requires on.0 on.1 c.tie.ensures.sheet (c.tie.ensures.working c.requires.working)
     (c.tie.ensures.idle c.requires.working c.requires.idle) (c.tie.ensures.grows c.requires.working) (c.tie.ensures.joined c.requires.working) in
-    let u : Congruence g.row.K.Denot g.row.I.Denot g.K.Keeper g.I.Index = record { keeper = c.first_broken.new.k; index = t1.index; pictures = t1.pictures; journal = t1.journal; picture_room = t1.picture_room; journal_room = t1.journal_room } in
+    let u : Congruence g.row.K.Denot g.row.I.Denot = record { keeper = c.first_broken.new.k; index = t1.index; pictures = t1.pictures; journal = t1.journal } in
     let same = alike_keeper g.K.Keeper t1 u c.first_broken.ensures.same refl refl refl in
     let es = vec_items s.entries in
     let fs = es ++ Same a b ∷ [] in
@@ -163,7 +163,7 @@ returns-in-Some g c =
     let ek : k ≡ length E + 1 = pass.0 ∙ ap (λ (n : ℕ). n + 1) c.entry_count.ensures in
     let tied = tied_in g.K.Keeper g.I.Index cap s.congruence t1 E a b k j refl ek c.requires on.0 on.1 c.tie.ensures.sheet (c.tie.ensures.working c.requires.working)
     (c.tie.ensures.idle c.requires.working c.requires.idle) (c.tie.ensures.grows c.requires.working) (c.tie.ensures.joined c.requires.working) in
-    let u : Congruence g.row.K.Denot g.row.I.Denot g.K.Keeper g.I.Index = record { keeper = c.first_broken.new.k; index = t1.index; pictures = t1.pictures; journal = t1.journal; picture_room = t1.picture_room; journal_room = t1.journal_room } in
+    let u : Congruence g.row.K.Denot g.row.I.Denot = record { keeper = c.first_broken.new.k; index = t1.index; pictures = t1.pictures; journal = t1.journal } in
     let same = alike_keeper g.K.Keeper t1 u c.first_broken.ensures.same refl refl refl in
     let closes = same_closes tied in
     let es = vec_items s.entries in

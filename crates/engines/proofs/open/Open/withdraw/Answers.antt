@@ -9,8 +9,8 @@ use Rattle.engines.proofs.open.Open.withdraw.Goals as goal
 pub restore-requires : goal.restore-requires
 restore-requires g c =
     let s = c.args.self.now in
-    let r = subst (λ x. Restorable g.K.Keeper x c.args.to) (sym c.explain-steps.ensures.congruence) (restorable g.K.Keeper g.I.Index s.congruence c.args.to c.requires.working c.requires.fresh c.requires.limit) in
-    record { counted = r.counted; limit = r.limit; placed = r.placed; fresh = r.fresh }
+    let r = subst (λ x. Restorable g.K.Keeper x c.args.to) (sym c.explain-steps.ensures.congruence) (restorable g.K.Keeper g.I.Index s.congruence c.args.to c.requires.working c.requires.fresh c.requires.limit s.journal_room) in
+    record { counted = r.counted; limit = r.limit; placed = r.placed; fresh = r.fresh; room = r.room }
 
 pub returns : goal.returns
 returns g c =
