@@ -67,9 +67,11 @@ pub works_holds : {X Y : Type 0} (kept : Kept X) (found : Found Y) (c : Congruen
 works_holds kept found c s r w =
     let n = length-map (vec_items c.pictures) drawn in
     record {
-      counted = ready_counted (kept.reps c.keeper) (vec_items c.pictures) w.ready;
-      inward = λ o v q h. let b = w.going.posted.bears o v q h in (b.0.0, omega (arith, b.0.1, n));
-      booked = books_booked (kept.reps c.keeper) (sheet (vec_items c.pictures)) (vec_items c.journal) s w.ready.counted w.books;
+      holding = record {
+        counted = ready_counted (kept.reps c.keeper) (vec_items c.pictures) w.ready;
+        inward = λ o v q h. let b = w.going.posted.bears o v q h in (b.0.0, omega (arith, b.0.1, n));
+        booked = books_booked (kept.reps c.keeper) (sheet (vec_items c.pictures)) (vec_items c.journal) s w.ready.counted w.books;
+      };
       room = r;
     }
 

@@ -7,18 +7,16 @@ use Rattle.indexes.specs.Meaning.{held}
 use Rattle.indexes.specs.declared.index.Index.{Ghosts as Found}
 use Rattle.congruence.specs.declared.congruence.Congruence.{Congruence}
 use Rattle.congruence.specs.Drawn.{sheet}
-use Rattle.congruence.specs.Working.{Counted, Inward, Booked, Progress}
+use Rattle.congruence.specs.Working.{Holding, Progress}
 use Rattle.congruence.specs.Waiting.{Working}
 
 -- classes, journal, pictures and index stand as they do between two joins
 abbrev pub Works : {X Y : Type 0} (kept : Kept X) (found : Found Y) → Congruence X Y → Type 0
 Works kept found c = Working (kept.reps c.keeper) (vec_items c.pictures) (held (found.leads c.index)) (vec_items c.journal)
 
--- the least that twins can be put together with: it speaks of numbers only, and of room for as many joins as pictures can cost
+-- the least that twins can be put together with, and room for as many joins as pictures can cost
 pub record Holds {X Y : Type 0} (kept : Kept X) (found : Found Y) (c : Congruence X Y) : Type 0 where
-  pub counted : Counted (kept.reps c.keeper) (vec_items c.pictures)
-  pub inward : Inward (length (vec_items c.pictures)) (held (found.leads c.index))
-  pub booked : Booked (kept.reps c.keeper) (length (vec_items c.journal))
+  pub holding : Holding (kept.reps c.keeper) (vec_items c.pictures) (held (found.leads c.index)) (vec_items c.journal)
   pub room : 1024 ≤ vec_capacity c.journal
 
 -- c' means what c means: the representatives, the index, the pictures and the journal are the same

@@ -51,6 +51,12 @@ pub record Apart (rs : List ℕ) (j : Join) : Type 0 where
 abbrev pub Booked : List ℕ → ℕ → Type 0
 Booked rs joins = joins + class_count rs ≤ length rs
 
+-- the least that twins can be put together with: it speaks of numbers only
+pub record Holding (rs : List ℕ) (ps : List Held) (m : ℕ → List ℕ → Option ℕ) (J : List Join) : Type 0 where
+  pub counted : Counted rs ps
+  pub inward : Inward (length ps) m
+  pub booked : Booked rs (length J)
+
 -- from the classes rs and a journal of j joins to the classes rs' and a journal of j': each join cost one class
 pub record Progress (rs rs' : List ℕ) (j j' : ℕ) : Type 0 where
   pub counted : length rs' ≡ length rs

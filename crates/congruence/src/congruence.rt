@@ -19,9 +19,5 @@ pub struct Congruence<K: Keeper, I: Index> {
 pub mod making;
 // what is asked of it
 pub mod asking;
-// two classes made one
-pub mod merging;
-// twins put together
-pub mod settling;
-// classes made again from the journal
-pub mod restoring;
+// its classes changed
+pub mod changing;

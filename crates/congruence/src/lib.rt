@@ -7,8 +7,12 @@ pub mod picture;
 pub mod journal;
 // representatives of pictures and of rows
 pub mod rooting;
-// how many joins put two pictures together
-pub mod reaching;
+// two classes made one
+pub mod merging;
+// twins put together
+pub mod settling;
+// classes made again from a journal
+pub mod restoring;
 // pictures and the classes that their joins force
 pub mod congruence;
 

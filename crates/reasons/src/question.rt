@@ -1,5 +1,3 @@
-ghost use Rattle.std.specs.Prelude.{◌≤◌, length};
-
 use congruence::{Join, Picture};
 
 // Two pictures of a sheet, and the journal of its joins, which is to tell why they are in one class.
@@ -9,5 +7,4 @@ pub struct Question<'a> {
     pub journal: &'a [Join],
     pub a: u16,
     pub b: u16,
-    ghost few: { length journal.now ≤ 1024 },
 }

@@ -66,6 +66,7 @@ impl<S: Keeper> Explainer<S> {
 
     // Marks joins that join a and b, where the journal does: those of the guess if it is certified, else all.
     fn choose(&mut self, asked: &Question)
+        requires { length asked.now.journal.now ≤ 1024 }
         ensures { Chosen (sheet asked.now.pictures.now) (reasons asked.now.journal.now) asked.now.a asked.now.b self.new.marks.items }
     {
         self.guess(asked);
@@ -76,7 +77,8 @@ impl<S: Keeper> Explainer<S> {
 
     // Writes into the table a reason chain that joins the two pictures, made of joins of the journal, and answers its number of steps.
     pub fn explain(&mut self, table: &mut [Step], asked: &Question) -> u16
-        requires { length asked.now.journal.now ≤ length table.old }
+        requires room { length asked.now.journal.now ≤ length table.old }
+        requires few { length asked.now.journal.now ≤ 1024 }
         ensures few { result ≤ length asked.now.journal.now }
         ensures rest { Rest result table.old table.new }
         ensures explained { Explained (sheet asked.now.pictures.now) (reasons asked.now.journal.now) asked.now.a asked.now.b result table.old table.new }

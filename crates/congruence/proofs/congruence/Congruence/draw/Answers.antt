@@ -20,9 +20,11 @@ settle-requires g c =
     let e = c.roots-row.ensures.same ∙ c.in_ok-number.ensures.2 in
     let pushed : vec_items c.push_reserved.new.self ≡ ps ++ h ∷ [] = c.push_reserved.ensures.items in
     record {
-      counted = subst (Counted us) (sym pushed) (grown_counted rs us ps h n c.requires.holds.counted c.requires.few e c.requires.fed);
-      inward = grown_inward (length ps) (length (vec_items c.push_reserved.new.self)) (held (g.I.Index.leads s.index)) (omega (arith, ap length pushed, length_push ps h)) c.requires.holds.inward;
-      booked = grown_booked rs us n (length (vec_items s.journal)) e c.requires.holds.booked;
+      holding = record {
+      counted = subst (Counted us) (sym pushed) (grown_counted rs us ps h n c.requires.holds.holding.counted c.requires.few e c.requires.fed);
+      inward = grown_inward (length ps) (length (vec_items c.push_reserved.new.self)) (held (g.I.Index.leads s.index)) (omega (arith, ap length pushed, length_push ps h)) c.requires.holds.holding.inward;
+      booked = grown_booked rs us n (length (vec_items s.journal)) e c.requires.holds.holding.booked;
+      };
       room = c.requires.holds.room;
     }
 

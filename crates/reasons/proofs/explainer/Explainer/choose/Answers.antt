@@ -10,6 +10,6 @@ returns-then-not-certify g c E x =
     let P = sheet c.args.asked.now.pictures.now in
     let js = c.args.asked.now.journal.now in
     let marks = c.guess.new.self.marks in
-    let l : length (reasons js) ≤ vec_len marks = omega (arith, length-map js reason_of, c.guess.new.self.marked, c.args.asked.now.few) in
+    let l : length (reasons js) ≤ vec_len marks = omega (arith, length-map js reason_of, c.guess.new.self.marked, c.requires) in
     subst (λ (bs : List Bool). Enough P (reasons js) c.args.asked.now.a c.args.asked.now.b bs) (sym (c.fill.ensures.items (λ y e. e)))
     (enough_all P E (reasons js) c.args.asked.now.a c.args.asked.now.b (vec_len marks) l x.0 x.1)

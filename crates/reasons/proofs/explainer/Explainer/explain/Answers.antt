@@ -9,12 +9,12 @@ pub write_chain-requires : goal.write_chain-requires
 write_chain-requires g c =
     let js = c.args.asked.now.journal.now in
     let few = told_few js c.deref.result.now c.deref-2.result.now (c.deref-2.ensures.value ∙ c.gather.ensures.items) in
-    (omega (arith, few, c.requires), omega (arith, few, c.args.asked.now.few))
+    (omega (arith, few, c.requires.room), omega (arith, few, c.requires.few))
 
 pub overflow_cast-result : goal.overflow_cast-result
 overflow_cast-result g c =
     let few = told_few c.args.asked.now.journal.now c.deref.result.now c.deref-2.result.now (c.deref-2.ensures.value ∙ c.gather.ensures.items) in
-    omega (arith, few, c.args.asked.now.few, ap length c.deref-2.ensures.value, c.len.ensures)
+    omega (arith, few, c.requires.few, ap length c.deref-2.ensures.value, c.len.ensures)
 
 pub returns : goal.returns
 returns g c =

@@ -6,7 +6,7 @@ use Rattle.congruence.specs.declared.picture.Picture.{Picture as Held}
 use Rattle.congruence.specs.Working.{Fed}
 use Rattle.congruence.proofs.Tiers.{counted_again}
 use Rattle.congruence.proofs.Replays.{renoted_more}
-use Rattle.congruence.proofs.congruence.restoring.renote.Goals as goal
+use Rattle.congruence.proofs.restoring.renote.Goals as goal
 
 pub roots-picture-requires : goal.roots-picture-requires
 roots-picture-requires g c =

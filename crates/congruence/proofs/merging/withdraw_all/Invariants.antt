@@ -1,6 +1,6 @@
 use Rattle.indexes.specs.Meaning.{held}
 use Rattle.congruence.proofs.Sweeps.{Walked}
-use Rattle.congruence.proofs.congruence.merging.withdraw_all.Given as goal
+use Rattle.congruence.proofs.merging.withdraw_all.Given as goal
 
 abbrev pub invariant-loop-picture : goal.invariant-loop-picture
 invariant-loop-picture g l =

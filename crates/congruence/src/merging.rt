@@ -4,10 +4,8 @@ ghost use Rattle.indexes.specs.Meaning.{held};
 ghost use Rattle.theory.specs.Sheet.{On};
 ghost use Rattle.congruence.specs.Drawn.{sheet};
 ghost use Rattle.congruence.specs.Working.{Apart, Inward};
-ghost use Rattle.congruence.specs.Waiting.{noted, waits, Free, Posted, Withdrawn};
-ghost use Rattle.congruence.specs.Whole.{Works};
+ghost use Rattle.congruence.specs.Waiting.{noted, waits, Free, Posted, Withdrawn, Working};
 
-use crate::congruence::Congruence;
 use crate::journal::Join;
 use crate::picture::Picture;
 use crate::rooting::{root, unite};
@@ -38,26 +36,29 @@ fn withdraw_all<I: Index>(index: &mut I, pictures: &mut [Picture], lost: u16, he
     }
 }
 
-impl<K: Keeper, I: Index> Congruence<K, I> {
-    // Makes the two classes of a join one, writes it into the journal, and lets the pictures wait whose signature changes.
-    pub fn merge(&mut self, join: Join)
-        requires apart { Apart (K.reps self.old.keeper) join }
-        requires room { vec_len self.old.journal < vec_capacity self.old.journal }
-        ensures unites { Unites join.left join.right (K.reps self.old.keeper) (K.reps self.new.keeper) }
-        ensures joined { rep (K.reps self.new.keeper) join.left ≡ rep (K.reps self.new.keeper) join.right }
-        ensures items { self.new.journal.items ≡ self.old.journal.items ++ join ∷ [] }
-        ensures space { vec_capacity self.new.journal ≡ vec_capacity self.old.journal }
-        ensures places { vec_capacity self.new.pictures ≡ vec_capacity self.old.pictures }
-        ensures sheet { sheet self.new.pictures.items ≡ sheet self.old.pictures.items }
-        ensures inward { (n : ℕ) → Inward n (held (I.leads self.old.index)) → Inward n (held (I.leads self.new.index)) }
-        ensures working { Works K.Keeper I.Index self.old → Works K.Keeper I.Index self.new }
-    {
-        let a = root(&mut self.keeper, join.left);
-        let b = root(&mut self.keeper, join.right);
-        unite(&mut self.keeper, &join);
-        self.journal.push_reserved(join);
-        let heir = root(&mut self.keeper, join.left);
-        let lost = if heir == a { b } else { a };
-        withdraw_all(&mut self.index, &mut self.pictures, lost, heir);
-    }
+// Makes the two classes of a join one, writes it into the journal, and lets the pictures wait whose signature changes.
+pub fn merge<K: Keeper, I: Index>(
+    k: &mut K,
+    index: &mut I,
+    pictures: &mut [Picture],
+    journal: &mut Vec<Join>,
+    join: Join,
+)
+    requires apart { Apart (K.reps k.old) join }
+    requires room { vec_len journal.old < vec_capacity journal.old }
+    ensures unites { Unites join.left join.right (K.reps k.old) (K.reps k.new) }
+    ensures joined { rep (K.reps k.new) join.left ≡ rep (K.reps k.new) join.right }
+    ensures items { journal.new.items ≡ journal.old.items ++ join ∷ [] }
+    ensures space { vec_capacity journal.new ≡ vec_capacity journal.old }
+    ensures sheet { sheet pictures.new ≡ sheet pictures.old }
+    ensures inward { (n : ℕ) → Inward n (held (I.leads index.old)) → Inward n (held (I.leads index.new)) }
+    ensures working { Working (K.reps k.old) pictures.old (held (I.leads index.old)) journal.old.items → Working (K.reps k.new) pictures.new (held (I.leads index.new)) journal.new.items }
+{
+    let a = root(k, join.left);
+    let b = root(k, join.right);
+    unite(k, &join);
+    journal.push_reserved(join);
+    let heir = root(k, join.left);
+    let lost = if heir == a { b } else { a };
+    withdraw_all(index, pictures, lost, heir);
 }

@@ -1,7 +1,7 @@
 use Rattle.std.proofs.Common.{◌≡◌, length, take}
 use Rattle.congruence.specs.Drawn.{sheet}
 use Rattle.congruence.specs.Working.{Books}
-use Rattle.congruence.proofs.congruence.restoring.replay.Given as goal
+use Rattle.congruence.proofs.restoring.replay.Given as goal
 
 abbrev pub invariant-loop-join : goal.invariant-loop-join
 invariant-loop-join g l =

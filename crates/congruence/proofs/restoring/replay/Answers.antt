@@ -8,7 +8,7 @@ use Rattle.congruence.specs.declared.journal.Join.{Join}
 use Rattle.congruence.specs.declared.journal.Cause.TheVariants.{Entry}
 use Rattle.congruence.specs.Drawn.{drawn, sheet}
 use Rattle.congruence.proofs.Replays.{books_none, replay_more}
-use Rattle.congruence.proofs.congruence.restoring.replay.Goals as goal
+use Rattle.congruence.proofs.restoring.replay.Goals as goal
 
 -- the join at place i of a journal
 abbrev at : List Join → ℕ → Join

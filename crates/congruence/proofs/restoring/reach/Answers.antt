@@ -3,7 +3,7 @@ use Rattle.std.proofs.lemmas.List.FromFn.{length-range_with_len}
 use Rattle.keepers.specs.declared.keeper.KeeperFault.{KeeperFault}
 use Rattle.keepers.specs.Counting.{Populated}
 use Rattle.keepers.specs.Reps.{joined_length}
-use Rattle.congruence.proofs.reaching.reach.Goals as goal
+use Rattle.congruence.proofs.restoring.reach.Goals as goal
 
 -- the keeper has room for n pictures
 counted : (cap n : ℕ) (rs : List ℕ) (r : Result Unit KeeperFault) → n ≤ cap → Populated cap n rs r → length rs ≡ n

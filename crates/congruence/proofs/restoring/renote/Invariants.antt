@@ -1,7 +1,7 @@
 use Rattle.std.proofs.Common.{◌≡◌}
 use Rattle.keepers.specs.Meaning.{rep}
 use Rattle.congruence.proofs.Replays.{Renoted}
-use Rattle.congruence.proofs.congruence.restoring.renote.Given as goal
+use Rattle.congruence.proofs.restoring.renote.Given as goal
 
 abbrev pub invariant-loop-picture : goal.invariant-loop-picture
 invariant-loop-picture g l =

@@ -2,7 +2,7 @@ use Rattle.std.proofs.Common.{get_or, ap, arith}
 use Rattle.indexes.specs.Meaning.{held}
 use Rattle.congruence.specs.declared.picture.Picture.{Picture as Held}
 use Rattle.congruence.proofs.Sweeps.{walked_on}
-use Rattle.congruence.proofs.congruence.merging.withdraw_all.Goals as goal
+use Rattle.congruence.proofs.merging.withdraw_all.Goals as goal
 
 pub loop-picture-preserved : goal.loop-picture-preserved
 loop-picture-preserved g c =
