@@ -13,11 +13,13 @@ use indexes::Index;
 use keepers::Keeper;
 use keepers::relabel::relabel_row;
 
-// Takes a picture out of the index, notes its new row, and lets it wait, if its row has the lost representative.
+// Takes a picture out of the index, notes its new row, and lets it wait, if its row has the lost representative. A source is passed over before its row is
+// looked through: each merge looks at every picture, and that look is a call.
 fn withdraw<I: Index>(index: &mut I, picture: &mut Picture, lost: u16, heir: u16)
     ensures { Withdrawn (moved lost heir) lost picture.old picture.new (held (I.leads index.old)) (held (I.leads index.new)) }
 {
-    if picture.row.as_slice().contains(&lost) {
+    let row = picture.row.as_slice();
+    if !row.is_empty() && row.contains(&lost) {
         index.delete(picture.op, picture.row.as_slice());
         picture.row.change(|cells| relabel_row(cells, lost, heir));
         picture.waits = true;

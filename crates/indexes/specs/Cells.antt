@@ -52,7 +52,7 @@ some_held (Some e ∷ xs) o w (suc i) h b =
     ]
 
 -- what has a signature is in the bucket of that signature
-bucket_bears : (x : Option Lead) (o : ℕ) (w : List ℕ) → bears x o w ≡ true → bucket_for x ≡ bucket_of_signature o w
+pub bucket_bears : (x : Option Lead) (o : ℕ) (w : List ℕ) → bears x o w ≡ true → bucket_for x ≡ bucket_of_signature o w
 bucket_bears None o w b = absurd (true≢false (sym b))
 bucket_bears (Some e) o w b = let s = same_is e.op o e.row w b in ap (λ x. bucket_of_signature x e.row) s.0 ∙ ap (bucket_of_signature o) s.1
 
@@ -68,7 +68,7 @@ module _ (cs : List Cell) (hs : List ℕ) (o : ℕ) (w : List ℕ) (p : List ℕ
       sym (get_or-map (λ c. bears_at c o w) cs i spare false l) ∙ ap (λ x. get_or marks x false) (sym e)
       ∙ seek_none marks 0 p n (suc i) (k.whole (suc i) (omega arith) (omega (arith, length-map cs link_of)) s)
 
-  sought_none : seek marks 0 p ≡ None → held (leads_of cs) o w ≡ None
+  pub sought_none : seek marks 0 p ≡ None → held (leads_of cs) o w ≡ None
   sought_none n = none_held (map lead_in cs) o w (λ i l.
       let m : i < length cs = omega (arith, length-map cs lead_in) in
       ap (λ x. bears x o w) (get_or-map lead_in cs i spare None m)
@@ -77,7 +77,7 @@ module _ (cs : List Cell) (hs : List ℕ) (o : ℕ) (w : List ℕ) (p : List ℕ
         | inr t ↦ t
       ])
 
-  sought_some : (f : Found) → seek marks 0 p ≡ Some f → Located cs hs o w f
+  pub sought_some : (f : Found) → seek marks 0 p ≡ Some f → Located cs hs o w f
   sought_some f e =
       let s = seek_some _ 0 p f e in
       let a = subst (Chain (map link_of cs) (slice_index hs (bucket_of_signature o w))) s.is k.chain in

@@ -85,7 +85,7 @@ module _ (cs : List (Option Lead)) (i : ℕ) (l : i < length cs) where
 
 -- ---- a cell whose signature leads to another picture
 -- what is the same of a cell that is written is the same of all
-map_same : {X : Type 0} (g : Cell → X) (cs : List Cell) (i : ℕ) (d b : Cell) → i < length cs → g b ≡ g (get_or cs i d) → map g (set cs i b) ≡ map g cs
+pub map_same : {X : Type 0} (g : Cell → X) (cs : List Cell) (i : ℕ) (d b : Cell) → i < length cs → g b ≡ g (get_or cs i d) → map g (set cs i b) ≡ map g cs
 map_same g cs i d b l e = map-set g cs i b ∙ ap (set (map g cs) i) (e ∙ sym (get_or-map g cs i d (g d) l)) ∙ set-get_or (map g cs) i (g d)
 
 same_bucket : (p : ℕ) (x : Option Lead) → bucket_for (option_map (redirected p) x) ≡ bucket_for x

@@ -26,20 +26,20 @@ abbrev pub led : List Link → ℕ → ℕ → List Link
 led ls x v = slice_set ls x (record { parent = v; rank = rank ls x })
 
 module _ (ls : List Link) (x v : ℕ) (l : x < length ls) where
-  led_here : (y : ℕ) → y ≡ x → parent (led ls x v) y ≡ v
+  pub led_here : (y : ℕ) → y ≡ x → parent (led ls x v) y ≡ v
   led_here y e = ap (parent (led ls x v)) e ∙ ap (λ (k : Link). k.parent) (get_or-set_same ls x (record { parent = v; rank = rank ls x }) bare l)
 
-  led_other : (y : ℕ) → y ≢ x → parent (led ls x v) y ≡ parent ls y
+  pub led_other : (y : ℕ) → y ≢ x → parent (led ls x v) y ≡ parent ls y
   led_other y ne = ap (λ (k : Link). k.parent) (get_or-set_other ls x y (record { parent = v; rank = rank ls x }) bare ne)
 
-  led_rank : (y : ℕ) → rank (led ls x v) y ≡ rank ls y
+  pub led_rank : (y : ℕ) → rank (led ls x v) y ≡ rank ls y
   led_rank y =
       ⊎_elim
       (λ e. ap (rank (led ls x v)) e ∙ (ap (λ (k : Link). k.rank) (get_or-set_same ls x (record { parent = v; rank = rank ls x }) bare l) ∙ ap (rank ls) (sym e)))
       (λ ne. ap (λ (k : Link). k.rank) (get_or-set_other ls x y (record { parent = v; rank = rank ls x }) bare ne))
       (cases_eq y x)
 
-  led_rising : (n : ℕ) → Rising n ls → Upto n v → rank ls x < rank ls v → Rising n (led ls x v)
+  pub led_rising : (n : ℕ) → Rising n ls → Upto n v → rank ls x < rank ls v → Rising n (led ls x v)
   led_rising n rise u h y w =
       ⊎_elim
       (λ e.
@@ -55,7 +55,7 @@ module _ (ls : List Link) (x v : ℕ) (l : x < length ls) where
       ))
       (cases_eq y x)
 
-  led_bounded : (n : ℕ) → Bounded n ls → Bounded n (led ls x v)
+  pub led_bounded : (n : ℕ) → Bounded n ls → Bounded n (led ls x v)
   led_bounded n b y w = let h = b y w in let a = led_rank y in omega arith
 
 -- one link of x is skipped
@@ -66,7 +66,7 @@ module _ (n : ℕ) (ls : List Link) (t : Table n ls) (x : ℕ) (w : Upto n x) (n
   pub far_on : Upto n (parent ls (parent ls x))
   far_on = (t.rising (parent ls x) (t.rising x w).0).0
 
-  far_above : rank ls x < rank ls (parent ls (parent ls x))
+  pub far_above : rank ls x < rank ls (parent ls (parent ls x))
   far_above =
       let r = t.rising x w in
       let a = r.1 ne in
@@ -110,24 +110,24 @@ abbrev pub raised : List Link → ℕ → ℕ → List Link
 raised ls a v = slice_set ls a (record { parent = parent ls a; rank = v })
 
 module _ (ls : List Link) (a v : ℕ) (l : a < length ls) where
-  raised_parent : (y : ℕ) → parent (raised ls a v) y ≡ parent ls y
+  pub raised_parent : (y : ℕ) → parent (raised ls a v) y ≡ parent ls y
   raised_parent y =
       ⊎_elim
       (λ e. ap (parent (raised ls a v)) e ∙ (ap (λ (k : Link). k.parent) (get_or-set_same ls a (record { parent = parent ls a; rank = v }) bare l) ∙ ap (parent ls) (sym e)))
       (λ ne. ap (λ (k : Link). k.parent) (get_or-set_other ls a y (record { parent = parent ls a; rank = v }) bare ne))
       (cases_eq y a)
 
-  raised_here : (y : ℕ) → y ≡ a → rank (raised ls a v) y ≡ v
+  pub raised_here : (y : ℕ) → y ≡ a → rank (raised ls a v) y ≡ v
   raised_here y e = ap (rank (raised ls a v)) e ∙ ap (λ (k : Link). k.rank) (get_or-set_same ls a (record { parent = parent ls a; rank = v }) bare l)
 
-  raised_other : (y : ℕ) → y ≢ a → rank (raised ls a v) y ≡ rank ls y
+  pub raised_other : (y : ℕ) → y ≢ a → rank (raised ls a v) y ≡ rank ls y
   raised_other y ne = ap (λ (k : Link). k.rank) (get_or-set_other ls a y (record { parent = parent ls a; rank = v }) bare ne)
 
   -- no rank falls
   raised_most : rank ls a ≤ v → (y : ℕ) → rank ls y ≤ rank (raised ls a v) y
   raised_most h y = ⊎_elim (λ e. let r = raised_here y e in let q = ap (rank ls) e in omega arith) (λ ne. let r = raised_other y ne in omega arith) (cases_eq y a)
 
-  raised_rising : (n : ℕ) → Rising n ls → parent ls a ≡ a → rank ls a ≤ v → Rising n (raised ls a v)
+  pub raised_rising : (n : ℕ) → Rising n ls → parent ls a ≡ a → rank ls a ≤ v → Rising n (raised ls a v)
   raised_rising n rise top h y w =
       let p = raised_parent y in
       let r = rise y w in (
@@ -141,7 +141,7 @@ module _ (ls : List Link) (a v : ℕ) (l : a < length ls) where
             omega arith,
       )
 
-  raised_roots : (n : ℕ) → roots n (raised ls a v) ≡ roots n ls
+  pub raised_roots : (n : ℕ) → roots n (raised ls a v) ≡ roots n ls
   raised_roots n = roots_same n ls (raised ls a v) (λ x w. climb_agree ls (raised ls a v) raised_parent n x)
 
 -- THE ROOT b IS LINKED TO THE ROOT a, WHICH HAS A HIGHER RANK
@@ -150,7 +150,7 @@ module _ (n : ℕ) (ls : List Link) (rise : Rising n ls) (low : Bounded n ls) (a
   apart : a ≢ b
   apart e = let r = ap (rank ls) e in omega arith
 
-  link_root : (x : ℕ) → Upto n x → root n (led ls b a) x ≡ moved b a (root n ls x)
+  pub link_root : (x : ℕ) → Upto n x → root n (led ls b a) x ≡ moved b a (root n ls x)
   link_root =
       let f = root_follows n ls rise low in
       let at_a : moved b a (root n ls a) ≡ a = ap (moved b a) (f.stop a wa ea) ∙ moved_miss b a a apart in
@@ -169,11 +169,11 @@ module _ (n : ℕ) (ls : List Link) (rise : Rising n ls) (low : Bounded n ls) (a
             (cases_eq y b);
       })
 
-  link_roots : roots n (led ls b a) ≡ map (moved b a) (roots n ls)
+  pub link_roots : roots n (led ls b a) ≡ map (moved b a) (roots n ls)
   link_roots = roots_by (moved b a) n ls (led ls b a) link_root
 
   -- there is one class less
-  link_fewer : class_count (roots n (led ls b a)) + 1 ≡ class_count (roots n ls)
+  pub link_fewer : class_count (roots n (led ls b a)) + 1 ≡ class_count (roots n ls)
   link_fewer =
       let f = root_follows n ls rise low in
       let len = length-roots n ls in
@@ -191,7 +191,7 @@ module _ (n : ℕ) (ls : List Link) (t : Table n ls) (heir lost : ℕ) (wh : Upt
       omega arith
 
   -- the next rank is a rank
-  rank_fits : rank ls lost + 1 ≤ n
+  pub rank_fits : rank ls lost + 1 ≤ n
   rank_fits = let a = t.low lost wl in let b = some in omega arith
 
   pub link_plain : rank ls lost < rank ls heir → Table n (led ls lost heir) × (roots n (led ls lost heir) ≡ map (moved lost heir) (roots n ls))
@@ -283,14 +283,14 @@ module _ (n : ℕ) (ls : List Link) (t : Table n ls) (l : length ls ≡ n + 1) w
       climb_old (n + 1) y w
       ∙ (ap (λ (s : ℕ). climb ls s y) (add-one n) ∙ sym ((root_follows n ls t.rising (bounded n ls t.low)).step y w ∙ refl))
 
-  grown_roots : roots (n + 1) (grown ls n) ≡ roots n ls ++ (n + 1) ∷ []
+  pub grown_roots : roots (n + 1) (grown ls n) ≡ roots n ls ++ (n + 1) ∷ []
   grown_roots =
       let f = root (n + 1) (grown ls n) in
       map-range_with_len_more f 1 n (n + 1) (omega arith)
       ∙ (ap (λ (x : ℕ). map f (range_with_len 1 n) ++ x ∷ []) (climb_stays (grown ls n) (n + 1) (n + 1) new_parent)
       ∙ ap (λ (xs : List ℕ). xs ++ (n + 1) ∷ []) (map_upto f (root n ls) n old_root))
 
-  grown_table : Table (n + 1) (grown ls n)
+  pub grown_table : Table (n + 1) (grown ls n)
   grown_table =
       let c = classes_push (roots n ls) (roots (n + 1) (grown ls n)) (n + 1) grown_roots in
       let k = classes_few (roots (n + 1) (grown ls n)) in

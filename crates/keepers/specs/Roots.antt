@@ -24,7 +24,7 @@ climb_stays ls (suc s) x e = ap (climb ls s) e ∙ climb_stays ls s x e
 
 module _ (n : ℕ) (ls : List Link) (rise : Rising n ls) (low : Bounded n ls) where
   -- a picture of the highest rank is a root
-  top : (x : ℕ) → Upto n x → n ≤ rank ls x → parent ls x ≡ x
+  pub top : (x : ℕ) → Upto n x → n ≤ rank ls x → parent ls x ≡ x
   top x w h =
       ⊎_elim (λ e. e) (λ ne. let r = rise x w in let b = low (parent ls x) r.0 in let c = r.1 ne in absurd (omega arith)) (cases_eq (parent ls x) x)
 

@@ -6,10 +6,7 @@ use keepers::Links;
 use printouts::print_record;
 
 fn main(rt: HostRuntime) -> anyhow::Result<()> {
-    let full = full_of_entries(&rt)?;
-    let most = newlines(&rt, 65536)?;
-    let over = newlines(&rt, 65537)?;
-    let lists: [(&str, &[u8]); 11] = [
+    let short: [(&str, &[u8]); 8] = [
         ("an empty text", b""),
         ("a line that ends too early", b"s 1"),
         ("a number that is too wide", b"s 65536 1\n"),
@@ -21,14 +18,17 @@ fn main(rt: HostRuntime) -> anyhow::Result<()> {
         ("a NUL", b"p 1\0\n"),
         ("a last line without its newline", b"p 1\np 2"),
         ("bytes that are no text", b"\xff\xfe\x00\x01\x80 \n\x7f"),
-        ("2,048 entries, and then d 1 1", full.as_slice()),
-        ("65,536 bytes", most.as_slice()),
-        ("65,537 bytes", over.as_slice()),
     ];
-    for (name, text) in lists {
+    for (name, text) in short {
         show(&rt, name, text)?;
     }
-    Ok(())
+    // each long list is made when it is shown, so that memory refused for one loses nothing of what comes before
+    let full = full_of_entries(&rt)?;
+    show(&rt, "2,048 entries, and then d 1 1", full.as_slice())?;
+    let most = newlines(&rt, 65536)?;
+    show(&rt, "65,536 bytes", most.as_slice())?;
+    let over = newlines(&rt, 65537)?;
+    show(&rt, "65,537 bytes", over.as_slice())
 }
 
 // One picture, 2,048 entries, and one entry more.

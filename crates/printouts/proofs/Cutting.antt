@@ -19,11 +19,11 @@ Inner b = newline b ≡ false
 inner_first : (b : ℕ) (bs : List ℕ) → Inner b → lines (b ∷ bs) ≡ glue b (lines bs)
 inner_first b bs h = ap (λ t. cond t ([] ∷ lines bs) (glue b (lines bs))) h
 
-lines_cut : (pre : List ℕ) (c : ℕ) (rest : List ℕ) → All Inner pre → newline c ≡ true → lines (pre ++ (c ∷ rest)) ≡ pre ∷ lines rest
+pub lines_cut : (pre : List ℕ) (c : ℕ) (rest : List ℕ) → All Inner pre → newline c ≡ true → lines (pre ++ (c ∷ rest)) ≡ pre ∷ lines rest
 lines_cut [] c rest h e = ap (λ t. cond t ([] ∷ lines rest) (glue c (lines rest))) e
 lines_cut (b ∷ pre) c rest h e = inner_first b (pre ++ (c ∷ rest)) (All-head Inner b pre h) ∙ ap (glue b) (lines_cut pre c rest (All-tail Inner b pre h) e)
 
-lines_last : (b : ℕ) (pre : List ℕ) → All Inner (b ∷ pre) → lines (b ∷ pre) ≡ (b ∷ pre) ∷ []
+pub lines_last : (b : ℕ) (pre : List ℕ) → All Inner (b ∷ pre) → lines (b ∷ pre) ≡ (b ∷ pre) ∷ []
 lines_last b [] h = inner_first b [] (All-head Inner b [] h)
 lines_last b (p ∷ pre) h = inner_first b (p ∷ pre) (All-head Inner b (p ∷ pre) h) ∙ ap (glue b) (lines_last p pre (All-tail Inner b (p ∷ pre) h))
 

@@ -10,7 +10,7 @@ use Rattle.printouts.specs.declared.reply.Answer.{Answer}
 use Rattle.printouts.specs.Form.{Takes}
 use Rattle.printouts.specs.Replies.{Outcome, answer_of, outcome_of, Makes, Did}
 
-some_after_p : (c n : ℕ) → Takes c n → c ≡ 112 → 1 ≤ n
+pub some_after_p : (c n : ℕ) → Takes c n → c ≡ 112 → 1 ≤ n
 some_after_p c n (inl t) e = t.1
 some_after_p c n (inr t) e = omega (arith, t.1)
 
@@ -18,11 +18,11 @@ some_after_p c n (inr t) e = omega (arith, t.1)
 pub makes_add : (c : ℕ) (ns xs : List ℕ) → Takes c (length ns) → c ≡ 112 → ns ≡ xs → Makes c ns (add (get_or xs 0 0) (take (length xs - 1) (drop 1 xs)))
 makes_add c ns xs t e q = (e, q ∙ first_rest xs 0 (omega (arith, ap length q, some_after_p c (length ns) t e)))
 
-two_after : (c n : ℕ) → Takes c n → (c ≡ 112 → ⊥) → n ≡ 2
+pub two_after : (c n : ℕ) → Takes c n → (c ≡ 112 → ⊥) → n ≡ 2
 two_after c n (inl t) ne = absurd (ne t.0)
 two_after c n (inr t) ne = t.1
 
-two : (ns : List ℕ) → length ns ≡ 2 → ns ≡ get_or ns 0 0 ∷ get_or ns 1 0 ∷ []
+pub two : (ns : List ℕ) → length ns ≡ 2 → ns ≡ get_or ns 0 0 ∷ get_or ns 1 0 ∷ []
 two [] h = absurd (omega arith)
 two (x ∷ []) h = absurd (omega arith)
 two (x ∷ y ∷ []) h = refl

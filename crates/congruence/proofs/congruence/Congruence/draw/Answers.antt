@@ -21,9 +21,9 @@ settle-requires g c =
     let pushed : vec_items c.push_reserved.new.self ≡ ps ++ h ∷ [] = c.push_reserved.ensures.items in
     record {
       holding = record {
-      counted = subst (Counted us) (sym pushed) (grown_counted rs us ps h n c.requires.holds.holding.counted c.requires.few e c.requires.fed);
-      inward = grown_inward (length ps) (length (vec_items c.push_reserved.new.self)) (held (g.I.Index.leads s.index)) (omega (arith, ap length pushed, length_push ps h)) c.requires.holds.holding.inward;
-      booked = grown_booked rs us n (length (vec_items s.journal)) e c.requires.holds.holding.booked;
+        counted = subst (Counted us) (sym pushed) (grown_counted rs us ps h n c.requires.holds.holding.counted c.requires.few e c.requires.fed);
+        inward = grown_inward (length ps) (length (vec_items c.push_reserved.new.self)) (held (g.I.Index.leads s.index)) (omega (arith, ap length pushed, length_push ps h)) c.requires.holds.holding.inward;
+        booked = grown_booked rs us n (length (vec_items s.journal)) e c.requires.holds.holding.booked;
       };
       room = c.requires.holds.room;
     }
