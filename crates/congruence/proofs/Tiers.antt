@@ -12,7 +12,7 @@ use Rattle.congruence.specs.declared.picture.Picture.{Picture as Held}
 use Rattle.congruence.specs.declared.journal.Join.{Join}
 use Rattle.congruence.specs.declared.congruence.Congruence.{Congruence}
 use Rattle.congruence.specs.Drawn.{drawn, sheet}
-use Rattle.congruence.specs.Working.{Ready, Books, Fed, Counted, Inward, Apart, Booked, Progress}
+use Rattle.congruence.specs.Working.{Ready, Books, Fed, Counted, Holding, Inward, Apart, Booked, Progress}
 use Rattle.congruence.specs.Waiting.{Going, Working, noted, row, waits}
 use Rattle.congruence.specs.Whole.{Works, Holds}
 use Rattle.congruence.proofs.Journals.{inputs_on}
@@ -63,17 +63,18 @@ ready_counted rs ps r =
           (All-weaker (On (sheet ps)) (Upto (length ps)) (λ i o. (o.0, omega (arith, o.1, n))) _ (inputs_on (sheet ps) r.ordered (k + 1) (omega arith, omega (arith, n, l))));
     }
 
-pub works_holds : {X Y : Type 0} (kept : Kept X) (found : Found Y) (c : Congruence X Y) → Settled (kept.reps c.keeper) → 1024 ≤ vec_capacity c.journal → Works kept found c → Holds kept found c
-works_holds kept found c s r w =
-    let n = length-map (vec_items c.pictures) drawn in
+-- and so is what is only lent
+pub working_holding : (rs : List ℕ) (ps : List Held) (m : ℕ → List ℕ → Option ℕ) (J : List Join) → Settled rs → Working rs ps m J → Holding rs ps m J
+working_holding rs ps m J s w =
+    let n = length-map ps drawn in
     record {
-      holding = record {
-        counted = ready_counted (kept.reps c.keeper) (vec_items c.pictures) w.ready;
-        inward = λ o v q h. let b = w.going.posted.bears o v q h in (b.0.0, omega (arith, b.0.1, n));
-        booked = books_booked (kept.reps c.keeper) (sheet (vec_items c.pictures)) (vec_items c.journal) s w.ready.counted w.books;
-      };
-      room = r;
+      counted = ready_counted rs ps w.ready;
+      inward = λ o v q h. let b = w.going.posted.bears o v q h in (b.0.0, omega (arith, b.0.1, n));
+      booked = books_booked rs (sheet ps) J s w.ready.counted w.books;
     }
+
+pub works_holds : {X Y : Type 0} (kept : Kept X) (found : Found Y) (c : Congruence X Y) → Settled (kept.reps c.keeper) → 1024 ≤ vec_capacity c.journal → Works kept found c → Holds kept found c
+works_holds kept found c s r w = record { holding = working_holding (kept.reps c.keeper) (vec_items c.pictures) (held (found.leads c.index)) (vec_items c.journal) s w; room = r }
 
 -- one picture more
 pub grown_counted : (rs rs' : List ℕ) (ps : List Held) (h : Held) (x : ℕ) → Counted rs ps → length ps < 1024 → rs' ≡ rs ++ x ∷ [] → Fed (length ps) h → Counted rs' (ps ++ h ∷ [])
