@@ -63,7 +63,7 @@ ready_counted rs ps r =
           (All-weaker (On (sheet ps)) (Upto (length ps)) (λ i o. (o.0, omega (arith, o.1, n))) _ (inputs_on (sheet ps) r.ordered (k + 1) (omega arith, omega (arith, n, l))));
     }
 
--- and so is what is only lent
+-- of parts that are only lent, and of a `Congruence` that owns them
 pub working_holding : (rs : List ℕ) (ps : List Held) (m : ℕ → List ℕ → Option ℕ) (J : List Join) → Settled rs → Working rs ps m J → Holding rs ps m J
 working_holding rs ps m J s w =
     let n = length-map ps drawn in
