@@ -1,4 +1,5 @@
 pub mod Options
+pub mod Besides
 pub mod Inwards
 pub mod Moves
 pub mod Journals
@@ -6,6 +7,7 @@ pub mod Pigeons
 pub mod Posts
 pub mod Fusing
 pub mod Sweeps
+pub mod Views
 pub mod Replays
 pub mod Resting
 pub mod Growing

@@ -2,7 +2,11 @@
 #![tactic(auto)]
 
 // pictures, and what is noted of them while classes are joined
+pub mod tracked;
+// pictures that hold their notes
 pub mod picture;
+// pictures that are only lent, with notes beside them
+pub mod beside;
 // the joins that were made, in order
 pub mod journal;
 // representatives of pictures and of rows
@@ -16,6 +20,8 @@ pub mod restoring;
 // pictures and the classes that their joins force
 pub mod congruence;
 
+pub use beside::{Beside, Note};
 pub use congruence::Congruence;
 pub use journal::{Cause, Join};
 pub use picture::Picture;
+pub use tracked::Tracked;

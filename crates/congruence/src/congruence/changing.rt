@@ -3,7 +3,7 @@ ghost use Rattle.keepers.specs.Meaning.{rep, Upto, Unites};
 ghost use Rattle.indexes.specs.Meaning.{held};
 ghost use Rattle.theory.specs.Sheet.{Ordered};
 ghost use Rattle.theory.specs.Reasons.{Fits};
-ghost use Rattle.congruence.specs.Drawn.{sheet, reason_of, reasons};
+ghost use Rattle.congruence.specs.Drawn.{sheet, reason_of, reasons, inputs_held};
 ghost use Rattle.congruence.specs.Working.{Apart, Inward, Counted, Progress, Grows, Fresh, Placed, Any};
 ghost use Rattle.congruence.specs.Waiting.{Idle};
 ghost use Rattle.congruence.specs.Whole.{Works, Holds};
@@ -28,6 +28,7 @@ impl<K: Keeper, I: Index> Congruence<K, I> {
         ensures space { vec_capacity self.new.journal ≡ vec_capacity self.old.journal }
         ensures places { vec_capacity self.new.pictures ≡ vec_capacity self.old.pictures }
         ensures sheet { sheet self.new.pictures.items ≡ sheet self.old.pictures.items }
+        ensures inputs { inputs_held self.new.pictures.items ≡ inputs_held self.old.pictures.items }
         ensures inward { (n : ℕ) → Inward n (held (I.leads self.old.index)) → Inward n (held (I.leads self.new.index)) }
         ensures working { Works K.Keeper I.Index self.old → Works K.Keeper I.Index self.new }
     {
@@ -48,6 +49,7 @@ impl<K: Keeper, I: Index> Congruence<K, I> {
         ensures space { vec_capacity self.new.journal ≡ vec_capacity self.old.journal }
         ensures places { vec_capacity self.new.pictures ≡ vec_capacity self.old.pictures }
         ensures sheet { sheet self.new.pictures.items ≡ sheet self.old.pictures.items }
+        ensures inputs { inputs_held self.new.pictures.items ≡ inputs_held self.old.pictures.items }
         ensures working { Works K.Keeper I.Index self.old → Works K.Keeper I.Index self.new }
         ensures idle { Works K.Keeper I.Index self.old → Idle self.new.pictures.items }
         ensures grows { Works K.Keeper I.Index self.old → Grows (sheet self.old.pictures.items) Any self.old.journal.items self.new.journal.items }
@@ -69,6 +71,7 @@ impl<K: Keeper, I: Index> Congruence<K, I> {
         ensures space { vec_capacity self.new.journal ≡ vec_capacity self.old.journal }
         ensures places { vec_capacity self.new.pictures ≡ vec_capacity self.old.pictures }
         ensures sheet { sheet self.new.pictures.items ≡ sheet self.old.pictures.items }
+        ensures inputs { inputs_held self.new.pictures.items ≡ inputs_held self.old.pictures.items }
         ensures working { Works K.Keeper I.Index self.old → Works K.Keeper I.Index self.new }
         ensures idle { Works K.Keeper I.Index self.old → Idle self.old.pictures.items → Idle self.new.pictures.items }
         ensures grows { Works K.Keeper I.Index self.old → Grows (sheet self.old.pictures.items) (λ E. Fits (sheet self.old.pictures.items) E (reasons self.old.journal.items) (reason_of join)) self.old.journal.items self.new.journal.items }
@@ -94,6 +97,7 @@ impl<K: Keeper, I: Index> Congruence<K, I> {
         ensures space { vec_capacity self.new.journal ≡ vec_capacity self.old.journal }
         ensures places { vec_capacity self.new.pictures ≡ vec_capacity self.old.pictures }
         ensures sheet { sheet self.new.pictures.items ≡ sheet self.old.pictures.items }
+        ensures inputs { inputs_held self.new.pictures.items ≡ inputs_held self.old.pictures.items }
         ensures working { Ordered (sheet self.old.pictures.items) → Works K.Keeper I.Index self.new }
         ensures idle { Ordered (sheet self.old.pictures.items) → Idle self.new.pictures.items }
         ensures grows { Ordered (sheet self.old.pictures.items) → Grows (sheet self.old.pictures.items) Any (take to self.old.journal.items) self.new.journal.items }

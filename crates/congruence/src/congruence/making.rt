@@ -1,7 +1,7 @@
-ghost use Rattle.std.specs.Prelude.{◌≡◌, ℕ, ◌<◌, ◌≤◌, [], length, IfOk, All, vec_len, vec_capacity};
+ghost use Rattle.std.specs.Prelude.{◌≡◌, ℕ, ◌<◌, ◌≤◌, [], ◌∷◌, ◌++◌, length, IfOk, All, vec_len, vec_capacity};
 ghost use Rattle.keepers.specs.Meaning.{Upto};
 ghost use Rattle.rows.specs.Row.{cells_of};
-ghost use Rattle.congruence.specs.Drawn.{sheet};
+ghost use Rattle.congruence.specs.Drawn.{sheet, inputs_held};
 ghost use Rattle.congruence.specs.Working.{Grows, Any};
 ghost use Rattle.congruence.specs.Waiting.{Idle};
 ghost use Rattle.congruence.specs.Whole.{Works, Holds, DrawnOne};
@@ -43,6 +43,7 @@ impl<K: Keeper, I: Index> Congruence<K, I> {
         ensures holds { Holds K.Keeper I.Index self.new }
         ensures space { (vec_capacity self.new.pictures ≡ vec_capacity self.old.pictures) × (vec_capacity self.new.journal ≡ vec_capacity self.old.journal) }
         ensures drawn { DrawnOne K.Keeper op (cells_of inputs) self.old self.new result }
+        ensures inputs { IfOk result (λ n. inputs_held self.new.pictures.items ≡ inputs_held self.old.pictures.items ++ inputs ∷ []) }
         ensures working { Works K.Keeper I.Index self.old → Works K.Keeper I.Index self.new }
         ensures idle { Works K.Keeper I.Index self.old → Idle self.old.pictures.items → Idle self.new.pictures.items }
         ensures grows { Works K.Keeper I.Index self.old → Grows (sheet self.new.pictures.items) Any self.old.journal.items self.new.journal.items }

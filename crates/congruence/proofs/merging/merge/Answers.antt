@@ -23,8 +23,9 @@ returns-clause-working g c w =
     let way : ((c.root-heir.result ≡ c.root-a.result) × (c.if-heir-a.lost ≡ c.root-b.result)) ⊎ ((c.root-heir.result ≢ c.root-a.result) × (c.if-heir-a.lost ≡ c.root-a.result)) =
     elim c.if-heir-a.branch [ then-heir-a w ↦ inl (w.if-heir-a.true, w.lost-is) | else-heir-a w ↦ inr (w.if-heir-a.false, w.lost-is) ] in
     let mv = lost_moves j.left j.right c.root-a.result c.root-b.result c.root-heir.result c.if-heir-a.lost rs rs' a.left_on a.right_on a.apart u ea eb c.root-heir.ensures.answer way in
-    let ps = c.args.pictures.now in
-    let ws = c.withdraw_all.new.pictures in
+    let seen = g.S.Tracked.seen in
+    let ps = seen c.args.pictures.now in
+    let ws = seen c.withdraw_all.new.pictures in
     let ew = c.withdraw_all.ensures in
     let m' = held (g.I.Index.leads c.withdraw_all.new.index) in
     merged c.if-heir-a.lost c.root-heir.result rs rs' (k.reps c.root-heir.new.k) ps ps ws (held (g.I.Index.leads c.args.index.now)) m' (vec_items c.args.journal.now) (vec_items c.push_reserved.new.self) j w a u mv refl ew.sheet ew.rows ew.posted

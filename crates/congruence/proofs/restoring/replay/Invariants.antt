@@ -6,7 +6,8 @@ use Rattle.congruence.proofs.restoring.replay.Given as goal
 abbrev pub invariant-loop-join : goal.invariant-loop-join
 invariant-loop-join g l =
     let rs = g.K.Keeper.reps l.k in
+    let P = sheet (g.S.Tracked.seen l.pictures) in
     record {
-      counted : length rs ≡ length (sheet l.pictures);
-      books : Books rs (sheet l.pictures) (take l.join-index l.journal);
+      counted : length rs ≡ length P;
+      books : Books rs P (take l.join-index l.journal);
     }

@@ -5,8 +5,9 @@ use Rattle.congruence.proofs.restoring.restore.Goals as goal
 
 pub settle-requires-clause-holding : goal.settle-requires-clause-holding
 settle-requires-clause-holding g c =
-    let ps = c.args.pictures.now in
-    let ws = c.renote.new.pictures in
+    let seen = g.S.Tracked.seen in
+    let ps = seen c.args.pictures.now in
+    let ws = seen c.renote.new.pictures in
     let rs = g.K.Keeper.reps c.replay.new.k in
     let us = g.K.Keeper.reps c.renote.new.k in
     let es = g.I.Index.leads c.reset.new.self in
@@ -21,8 +22,9 @@ settle-requires-clause-holding g c =
 
 pub returns-clause-working : goal.returns-clause-working
 returns-clause-working g c o =
-    let ps = c.args.pictures.now in
-    let ws = c.renote.new.pictures in
+    let seen = g.S.Tracked.seen in
+    let ps = seen c.args.pictures.now in
+    let ws = seen c.renote.new.pictures in
     let rs = g.K.Keeper.reps c.replay.new.k in
     let us = g.K.Keeper.reps c.renote.new.k in
     let es = g.I.Index.leads c.reset.new.self in

@@ -35,29 +35,31 @@ loop-join-preserved g c =
     let l = c.loop-join in
     let v = l.invariant in
     let j = c.in-Some.join in
-    let P = sheet c.args.pictures.now in
+    let P = sheet (g.S.Tracked.seen c.args.pictures.now) in
     let J = vec_items l.journal in
     let J' = vec_items c.merge.new.journal in
     let rs = k.reps l.k in
-    let ps = l.pictures in
+    let ps = g.S.Tracked.seen l.pictures in
     let m = held (g.I.Index.leads l.index) in
     let ep = c.merge.ensures.sheet ∙ c.sweep.ensures.sheet in
-    let o = joined_on rs (k.reps c.sweep.new.k) (k.reps c.merge.new.k) ps c.merge.new.pictures J J' j (g.met.K.Keeper.settled l.k) v.holding.counted v.holding.booked c.in-Some.ensures.found c.sweep.ensures.same c.merge.ensures.unites ep c.merge.ensures.items in
+    let o = joined_on rs (k.reps c.sweep.new.k) (k.reps c.merge.new.k) ps (g.S.Tracked.seen c.merge.new.pictures) J J' j (g.met.K.Keeper.settled l.k) v.holding.counted v.holding.booked c.in-Some.ensures.found c.sweep.ensures.same c.merge.ensures.unites ep c.merge.ensures.items in
     record {
       holding = record {
         counted = o.0;
-        inward = subst (λ (n : ℕ). Inward n (held (g.I.Index.leads c.merge.new.index))) (sym (sheet_length ps c.merge.new.pictures ep)) (c.merge.ensures.inward _ c.sweep.ensures.inward);
+        inward = subst (λ (n : ℕ). Inward n (held (g.I.Index.leads c.merge.new.index))) (sym (sheet_length ps (g.S.Tracked.seen c.merge.new.pictures) ep)) (c.merge.ensures.inward _ c.sweep.ensures.inward);
         booked = o.1;
       };
       progress = progress_then _ _ _ _ _ _ v.progress o.2;
       space = c.merge.ensures.space ∙ v.space;
       same = ep ∙ v.same;
+      inputs = c.merge.ensures.inputs ∙ (c.sweep.ensures.inputs ∙ v.inputs);
+      frame = c.merge.ensures.frame ∙ (c.sweep.ensures.frame ∙ v.frame);
       works = λ w.
           let h = v.works w in
           let r = h.0.ready in
           let go = c.sweep.ensures.going r h.0.going in
           let t = c.in-Some.ensures.swept r h.0.going in (
-            c.merge.ensures.working (working_again rs (k.reps c.sweep.new.k) ps c.sweep.new.pictures m (held (g.I.Index.leads c.sweep.new.index)) J J h.0 c.sweep.ensures.same c.sweep.ensures.sheet refl go),
+            c.merge.ensures.working (working_again rs (k.reps c.sweep.new.k) ps (g.S.Tracked.seen c.sweep.new.pictures) m (held (g.I.Index.leads c.sweep.new.index)) J J h.0 c.sweep.ensures.same c.sweep.ensures.sheet refl go),
             grows_twins rs P (vec_items c.args.journal.now) J J' j (subst (Ready rs) v.same r) (subst (λ (Q : List Picture). Books rs Q J) v.same h.0.books)
                 (subst (λ (Q : List Picture). TwinsApart (rep rs) Q j.left j.right) (c.sweep.ensures.sheet ∙ v.same) t.0) t.1 h.1 c.merge.ensures.items,
           );
@@ -73,16 +75,18 @@ returns g c =
     let J = vec_items l.journal in
     record {
       holding = record {
-        counted = counted_again rs (k.reps c.sweep.new.k) l.pictures c.sweep.new.pictures v.holding.counted (ap length c.sweep.ensures.same) e;
-        inward = subst (λ (n : ℕ). Inward n (held (g.I.Index.leads c.sweep.new.index))) (sym (sheet_length l.pictures c.sweep.new.pictures e)) c.sweep.ensures.inward;
+        counted = counted_again rs (k.reps c.sweep.new.k) (g.S.Tracked.seen l.pictures) (g.S.Tracked.seen c.sweep.new.pictures) v.holding.counted (ap length c.sweep.ensures.same) e;
+        inward = subst (λ (n : ℕ). Inward n (held (g.I.Index.leads c.sweep.new.index))) (sym (sheet_length (g.S.Tracked.seen l.pictures) (g.S.Tracked.seen c.sweep.new.pictures) e)) c.sweep.ensures.inward;
         booked = subst (λ (ts : List ℕ). Booked ts (length J)) (sym c.sweep.ensures.same) v.holding.booked;
       };
       progress = subst (λ (ts : List ℕ). Progress (k.reps c.args.k.now) ts (length (vec_items c.args.journal.now)) (length J)) (sym c.sweep.ensures.same) v.progress;
       space = v.space;
       sheet = e ∙ v.same;
+      inputs = c.sweep.ensures.inputs ∙ v.inputs;
+      frame = c.sweep.ensures.frame ∙ v.frame;
       working = λ w.
           let h = (v.works w).0 in
-          working_again rs (k.reps c.sweep.new.k) l.pictures c.sweep.new.pictures (held (g.I.Index.leads l.index)) (held (g.I.Index.leads c.sweep.new.index)) J J h c.sweep.ensures.same e refl (c.sweep.ensures.going h.ready h.going);
+          working_again rs (k.reps c.sweep.new.k) (g.S.Tracked.seen l.pictures) (g.S.Tracked.seen c.sweep.new.pictures) (held (g.I.Index.leads l.index)) (held (g.I.Index.leads c.sweep.new.index)) J J h c.sweep.ensures.same e refl (c.sweep.ensures.going h.ready h.going);
       idle = λ w. let h = (v.works w).0 in c.in_default.ensures.swept h.ready h.going;
       grows = λ w. (v.works w).1;
     }

@@ -1,90 +1,162 @@
-use Rattle.std.proofs.Common.{◌-◌, List, length, get_or, sym, refl, ap, ◌∙◌, subst, arith}
+use Rattle.std.proofs.Common.{◌≡◌, ℕ, ◌+◌, ◌-◌, ◌<◌, ◌≤◌, false, List, length, sym, refl, ap, ◌∙◌, subst, arith}
 use Rattle.std.proofs.lemmas.List.{length-map}
 use Rattle.theory.specs.Sheet.{Picture}
-use Rattle.keepers.specs.Meaning.{rep}
+use Rattle.keepers.specs.Meaning.{rep, Upto}
 use Rattle.indexes.specs.Meaning.{held}
 use Rattle.congruence.specs.declared.picture.Picture.{Picture as Held}
-use Rattle.congruence.specs.Drawn.{drawn}
-use Rattle.congruence.specs.Waiting.{TwinsApart}
-use Rattle.congruence.proofs.Sweeps.{sheet_set, turn_none, turn_some}
+use Rattle.congruence.specs.Drawn.{drawn, held_at}
+use Rattle.congruence.specs.Waiting.{waits, Going, TwinsApart}
+use Rattle.congruence.proofs.Sweeps.{turn_none, turn_some}
+use Rattle.congruence.proofs.Tiers.{sheet_length}
+use Rattle.congruence.proofs.Views.{held_is, kept_set}
 use Rattle.congruence.proofs.settling.sweep.Goals as goal
+
+pub look-requires-clause-held : goal.look-requires-clause-held
+look-requires-clause-held g c =
+    let l = c.loop-p in
+    omega (arith, sheet_length (g.S.Tracked.seen c.args.pictures.now) (g.S.Tracked.seen l.pictures) l.invariant.drawn, c.count-p-end.ensures)
 
 pub returns-in-Some-clause-sheet : goal.returns-in-Some-clause-sheet
 returns-in-Some-clause-sheet g c =
     let l = c.loop-p in
-    let h = get_or l.pictures (l.p - 1) c.index-pictures-p.result in
-    sheet_set l.pictures (l.p - 1) h c.look.new.picture (ap (λ (d : Held). get_or l.pictures (l.p - 1) d) c.index-pictures-p.is) c.look.ensures.drawn ∙ l.invariant.drawn
+    let v = l.invariant in
+    let first = g.S.Tracked.seen c.args.pictures.now in
+    let ps = g.S.Tracked.seen l.pictures in
+    let qs = g.S.Tracked.seen c.look.new.pictures in
+    let i = l.p - 1 in
+    let w = c.look.ensures in
+    let b : i < length ps = omega (arith, sheet_length first ps v.drawn, c.count-p-end.ensures) in
+    kept_set drawn ps qs i b w.only w.drawn ∙ v.drawn
+
+pub returns-in-Some-clause-inputs : goal.returns-in-Some-clause-inputs
+returns-in-Some-clause-inputs g c =
+    let l = c.loop-p in
+    let v = l.invariant in
+    let first = g.S.Tracked.seen c.args.pictures.now in
+    let ps = g.S.Tracked.seen l.pictures in
+    let qs = g.S.Tracked.seen c.look.new.pictures in
+    let i = l.p - 1 in
+    let w = c.look.ensures in
+    let b : i < length ps = omega (arith, sheet_length first ps v.drawn, c.count-p-end.ensures) in
+    kept_set (λ (h : Held). h.inputs) ps qs i b w.only w.inputs ∙ v.inputs
 
 pub returns-in-Some-clause-going : goal.returns-in-Some-clause-going
-returns-in-Some-clause-going g c r w =
+returns-in-Some-clause-going g c r h =
     let l = c.loop-p in
     let v = l.invariant in
-    let h = get_or l.pictures (l.p - 1) c.index-pictures-p.result in
-    let is = ap (λ (d : Held). get_or l.pictures (l.p - 1) d) c.index-pictures-p.is in
+    let first = g.S.Tracked.seen c.args.pictures.now in
+    let ps = g.S.Tracked.seen l.pictures in
+    let qs = g.S.Tracked.seen c.look.new.pictures in
+    let i = l.p - 1 in
+    let w = c.look.ensures in
+    let b : i < length ps = omega (arith, sheet_length first ps v.drawn, c.count-p-end.ensures) in
     let rs = g.K.Keeper.reps c.args.k.now in
-    let t = turn_some c.args.pictures.now l.pictures rs (g.K.Keeper.reps l.k) (g.I.Index.leads l.index) l.p h c.look.new.picture (held (g.I.Index.leads c.look.new.index))
-    v.same v.drawn r (v.works r w).0 (l.auto.p, omega arith) is c.look.ensures.drawn (g.met.I.Index.once l.index) c.in-Some.q c.in-Some.ensures.looked in
-    t.1
+    let m' = held (g.I.Index.leads c.look.new.index) in
+    let u : Upto (length first) l.p = (l.auto.p, omega (arith, c.count-p-end.ensures)) in
+    let t = turn_some first ps rs (g.K.Keeper.reps l.k) (g.I.Index.leads l.index) l.p (held_at ps i) (held_at qs i) m'
+    v.same v.drawn r (v.works r h).0 u (held_is ps i b) w.drawn (g.met.I.Index.once l.index) c.in-Some.q c.in-Some.ensures.looked in
+    subst (λ (ws : List Held). Going (rep rs) ws m') (sym w.only) t.1
 
 pub returns-in-Some-clause-swept : goal.returns-in-Some-clause-swept
-returns-in-Some-clause-swept g c r w =
+returns-in-Some-clause-swept g c r h =
     let l = c.loop-p in
     let v = l.invariant in
+    let first = g.S.Tracked.seen c.args.pictures.now in
+    let ps = g.S.Tracked.seen l.pictures in
+    let qs = g.S.Tracked.seen c.look.new.pictures in
+    let i = l.p - 1 in
+    let w = c.look.ensures in
+    let b : i < length ps = omega (arith, sheet_length first ps v.drawn, c.count-p-end.ensures) in
     let rs = g.K.Keeper.reps c.args.k.now in
-    let h = get_or l.pictures (l.p - 1) c.index-pictures-p.result in
-    let new = c.look.new.picture in
-    let is = ap (λ (d : Held). get_or l.pictures (l.p - 1) d) c.index-pictures-p.is in
-    let e = c.look.ensures.drawn in
-    let t = turn_some c.args.pictures.now l.pictures rs (g.K.Keeper.reps l.k) (g.I.Index.leads l.index) l.p h new (held (g.I.Index.leads c.look.new.index))
-    v.same v.drawn r (v.works r w).0 (l.auto.p, omega arith) is e (g.met.I.Index.once l.index) c.in-Some.q c.in-Some.ensures.looked in
-    (subst (λ (P : List Picture). TwinsApart (rep rs) P l.p c.in-Some.q) (sym (sheet_set l.pictures (l.p - 1) h new is e)) t.0, refl)
+    let m' = held (g.I.Index.leads c.look.new.index) in
+    let u : Upto (length first) l.p = (l.auto.p, omega (arith, c.count-p-end.ensures)) in
+    let t = turn_some first ps rs (g.K.Keeper.reps l.k) (g.I.Index.leads l.index) l.p (held_at ps i) (held_at qs i) m'
+    v.same v.drawn r (v.works r h).0 u (held_is ps i b) w.drawn (g.met.I.Index.once l.index) c.in-Some.q c.in-Some.ensures.looked in
+    (subst (λ (P : List Picture). TwinsApart (rep rs) P l.p c.in-Some.q) (sym (kept_set drawn ps qs i b w.only w.drawn)) t.0, refl)
 
 pub loop-p-preserved : goal.loop-p-preserved
 loop-p-preserved g c =
     let l = c.loop-p in
     let v = l.invariant in
+    let first = g.S.Tracked.seen c.args.pictures.now in
+    let ps = g.S.Tracked.seen l.pictures in
+    let qs = g.S.Tracked.seen c.look.new.pictures in
+    let i = l.p - 1 in
+    let w = c.look.ensures in
+    let b : i < length ps = omega (arith, sheet_length first ps v.drawn, c.count-p-end.ensures) in
     let rs = g.K.Keeper.reps c.args.k.now in
-    let h = get_or l.pictures (l.p - 1) c.index-pictures-p.result in
-    let new = c.look.new.picture in
-    let is = ap (λ (d : Held). get_or l.pictures (l.p - 1) d) c.index-pictures-p.is in
-    let e = c.look.ensures.drawn in
+    let m' = held (g.I.Index.leads c.look.new.index) in
+    let u : Upto (length first) l.p = (l.auto.p, omega (arith, c.count-p-end.ensures)) in
     record {
-      same = c.look.ensures.same ∙ v.same;
-      drawn = sheet_set l.pictures (l.p - 1) h new is e ∙ v.drawn;
-      inward = λ o u q b. let k = c.look.ensures.inward o u q b in (k.0, omega (arith, k.1, ap length v.same, c.requires.counted.counted));
-      works = λ r w.
-          let t = turn_none c.args.pictures.now l.pictures rs (g.K.Keeper.reps l.k) (g.I.Index.leads l.index) l.p h new (held (g.I.Index.leads c.look.new.index))
-          v.same v.drawn r (v.works r w).0 (l.auto.p, omega arith) is e (g.met.I.Index.once l.index) c.in_default.ensures.looked (v.works r w).1 in
-          (t.0, λ q a b. t.1 q a (omega (arith, b)));
+      same = w.same ∙ v.same;
+      drawn = kept_set drawn ps qs i b w.only w.drawn ∙ v.drawn;
+      inputs = kept_set (λ (h : Held). h.inputs) ps qs i b w.only w.inputs ∙ v.inputs;
+      frame = w.frame ∙ v.frame;
+      inward = λ o x q e. let k = w.inward o x q e in (k.0, omega (arith, k.1, ap length v.same, c.requires.counted.counted));
+      works = λ r h.
+          let t = turn_none first ps rs (g.K.Keeper.reps l.k) (g.I.Index.leads l.index) l.p (held_at ps i) (held_at qs i) m'
+          v.same v.drawn r (v.works r h).0 u (held_is ps i b) w.drawn (g.met.I.Index.once l.index) c.in_default.ensures.looked (v.works r h).1 in (
+            subst (λ (ws : List Held). Going (rep rs) ws m') (sym w.only) t.0,
+            subst (λ (ws : List Held). (q : ℕ) → 1 ≤ q → q < l.p + 1 → waits ws q ≡ false) (sym w.only) (λ q a e. t.1 q a (omega (arith, e))),
+          );
     }
 
 -- the last turn
 pub returns-in_default-clause-sheet : goal.returns-in_default-clause-sheet
 returns-in_default-clause-sheet g c =
     let l = c.loop-p in
-    let h = get_or l.pictures (l.p - 1) c.index-pictures-p.result in
-    sheet_set l.pictures (l.p - 1) h c.look.new.picture (ap (λ (d : Held). get_or l.pictures (l.p - 1) d) c.index-pictures-p.is) c.look.ensures.drawn ∙ l.invariant.drawn
+    let v = l.invariant in
+    let first = g.S.Tracked.seen c.args.pictures.now in
+    let ps = g.S.Tracked.seen l.pictures in
+    let qs = g.S.Tracked.seen c.look.new.pictures in
+    let i = l.p - 1 in
+    let w = c.look.ensures in
+    let b : i < length ps = omega (arith, sheet_length first ps v.drawn, c.count-p-end.ensures) in
+    kept_set drawn ps qs i b w.only w.drawn ∙ v.drawn
+
+pub returns-in_default-clause-inputs : goal.returns-in_default-clause-inputs
+returns-in_default-clause-inputs g c =
+    let l = c.loop-p in
+    let v = l.invariant in
+    let first = g.S.Tracked.seen c.args.pictures.now in
+    let ps = g.S.Tracked.seen l.pictures in
+    let qs = g.S.Tracked.seen c.look.new.pictures in
+    let i = l.p - 1 in
+    let w = c.look.ensures in
+    let b : i < length ps = omega (arith, sheet_length first ps v.drawn, c.count-p-end.ensures) in
+    kept_set (λ (h : Held). h.inputs) ps qs i b w.only w.inputs ∙ v.inputs
 
 pub returns-in_default-clause-going : goal.returns-in_default-clause-going
-returns-in_default-clause-going g c r w =
+returns-in_default-clause-going g c r h =
     let l = c.loop-p in
     let v = l.invariant in
-    let h = get_or l.pictures (l.p - 1) c.index-pictures-p.result in
-    let is = ap (λ (d : Held). get_or l.pictures (l.p - 1) d) c.index-pictures-p.is in
+    let first = g.S.Tracked.seen c.args.pictures.now in
+    let ps = g.S.Tracked.seen l.pictures in
+    let qs = g.S.Tracked.seen c.look.new.pictures in
+    let i = l.p - 1 in
+    let w = c.look.ensures in
+    let b : i < length ps = omega (arith, sheet_length first ps v.drawn, c.count-p-end.ensures) in
     let rs = g.K.Keeper.reps c.args.k.now in
-    let t = turn_none c.args.pictures.now l.pictures rs (g.K.Keeper.reps l.k) (g.I.Index.leads l.index) l.p h c.look.new.picture (held (g.I.Index.leads c.look.new.index))
-    v.same v.drawn r (v.works r w).0 (l.auto.p, omega arith) is c.look.ensures.drawn (g.met.I.Index.once l.index) c.in_default.ensures.looked (v.works r w).1 in
-    t.0
+    let m' = held (g.I.Index.leads c.look.new.index) in
+    let u : Upto (length first) l.p = (l.auto.p, omega (arith, c.count-p-end.ensures)) in
+    let t = turn_none first ps rs (g.K.Keeper.reps l.k) (g.I.Index.leads l.index) l.p (held_at ps i) (held_at qs i) m'
+    v.same v.drawn r (v.works r h).0 u (held_is ps i b) w.drawn (g.met.I.Index.once l.index) c.in_default.ensures.looked (v.works r h).1 in
+    subst (λ (ws : List Held). Going (rep rs) ws m') (sym w.only) t.0
 
 pub returns-in_default-clause-swept : goal.returns-in_default-clause-swept
-returns-in_default-clause-swept g c r w q o =
+returns-in_default-clause-swept g c r h q o =
     let l = c.loop-p in
     let v = l.invariant in
+    let first = g.S.Tracked.seen c.args.pictures.now in
+    let ps = g.S.Tracked.seen l.pictures in
+    let qs = g.S.Tracked.seen c.look.new.pictures in
+    let i = l.p - 1 in
+    let w = c.look.ensures in
+    let b : i < length ps = omega (arith, sheet_length first ps v.drawn, c.count-p-end.ensures) in
     let rs = g.K.Keeper.reps c.args.k.now in
-    let h = get_or l.pictures (l.p - 1) c.index-pictures-p.result in
-    let new = c.look.new.picture in
-    let is = ap (λ (d : Held). get_or l.pictures (l.p - 1) d) c.index-pictures-p.is in
-    let e = c.look.ensures.drawn in
-    let t = turn_none c.args.pictures.now l.pictures rs (g.K.Keeper.reps l.k) (g.I.Index.leads l.index) l.p h new (held (g.I.Index.leads c.look.new.index))
-    v.same v.drawn r (v.works r w).0 (l.auto.p, omega arith) is e (g.met.I.Index.once l.index) c.in_default.ensures.looked (v.works r w).1 in
-    t.1 q o.0 (omega (arith, o.1, ap length (sheet_set l.pictures (l.p - 1) h new is e ∙ v.drawn), length-map c.args.pictures.now drawn))
+    let m' = held (g.I.Index.leads c.look.new.index) in
+    let u : Upto (length first) l.p = (l.auto.p, omega (arith, c.count-p-end.ensures)) in
+    let t = turn_none first ps rs (g.K.Keeper.reps l.k) (g.I.Index.leads l.index) l.p (held_at ps i) (held_at qs i) m'
+    v.same v.drawn r (v.works r h).0 u (held_is ps i b) w.drawn (g.met.I.Index.once l.index) c.in_default.ensures.looked (v.works r h).1 in
+    let e = kept_set drawn ps qs i b w.only w.drawn ∙ v.drawn in
+    subst (λ (ws : List Held). waits ws q ≡ false) (sym w.only) (t.1 q o.0 (omega (arith, o.1, ap length e, length-map first drawn, c.count-p-end.ensures)))

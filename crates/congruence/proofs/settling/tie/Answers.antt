@@ -15,38 +15,38 @@ pub merge-requires-clause-room : goal.merge-requires-clause-room
 merge-requires-clause-room g c =
     let rs = g.K.Keeper.reps c.args.k.now in
     let h = c.requires.holding in
-    let a = pair_apart rs c.args.pictures.now c.args.join h.counted c.requires.on.0 c.requires.on.1 (eqb-false _ _ (sym c.together.ensures.answer ∙ c.if-together.false)) in
+    let a = pair_apart rs (g.S.Tracked.seen c.args.pictures.now) c.args.join h.counted c.requires.on.0 c.requires.on.1 (eqb-false _ _ (sym c.together.ensures.answer ∙ c.if-together.false)) in
     let r = apart_room c.args.join (length (vec_items c.args.journal.now)) rs (g.met.K.Keeper.settled c.args.k.now) a h.booked in
     omega (arith, r, h.counted.counted, h.counted.few, c.requires.room, c.args.journal.now.ok.0)
 
 pub settle-requires-clause-holding : goal.settle-requires-clause-holding
 settle-requires-clause-holding g c =
     let k = g.K.Keeper in
-    let ps = c.args.pictures.now in
+    let ps = g.S.Tracked.seen c.args.pictures.now in
     let rs = k.reps c.args.k.now in
     let h = c.requires.holding in
     let a = pair_apart rs ps c.args.join h.counted c.requires.on.0 c.requires.on.1 (eqb-false _ _ (sym c.together.ensures.answer ∙ c.if-together.false)) in
-    let o = joined_on rs (k.reps c.together.new.k) (k.reps c.merge.new.k) ps c.merge.new.pictures (vec_items c.args.journal.now) (vec_items c.merge.new.journal) c.args.join (g.met.K.Keeper.settled c.args.k.now) h.counted h.booked a c.together.ensures.same c.merge.ensures.unites c.merge.ensures.sheet c.merge.ensures.items in
+    let o = joined_on rs (k.reps c.together.new.k) (k.reps c.merge.new.k) ps (g.S.Tracked.seen c.merge.new.pictures) (vec_items c.args.journal.now) (vec_items c.merge.new.journal) c.args.join (g.met.K.Keeper.settled c.args.k.now) h.counted h.booked a c.together.ensures.same c.merge.ensures.unites c.merge.ensures.sheet c.merge.ensures.items in
     record {
       counted = o.0;
-      inward = subst (λ (n : ℕ). Inward n (held (g.I.Index.leads c.merge.new.index))) (sym (sheet_length ps c.merge.new.pictures c.merge.ensures.sheet)) (c.merge.ensures.inward _ h.inward);
+      inward = subst (λ (n : ℕ). Inward n (held (g.I.Index.leads c.merge.new.index))) (sym (sheet_length ps (g.S.Tracked.seen c.merge.new.pictures) c.merge.ensures.sheet)) (c.merge.ensures.inward _ h.inward);
       booked = o.1;
     }
 
 pub returns-clause-progress : goal.returns-clause-progress
 returns-clause-progress g c =
     let k = g.K.Keeper in
-    let ps = c.args.pictures.now in
+    let ps = g.S.Tracked.seen c.args.pictures.now in
     let rs = k.reps c.args.k.now in
     let h = c.requires.holding in
     let a = pair_apart rs ps c.args.join h.counted c.requires.on.0 c.requires.on.1 (eqb-false _ _ (sym c.together.ensures.answer ∙ c.if-together.false)) in
-    let o = joined_on rs (k.reps c.together.new.k) (k.reps c.merge.new.k) ps c.merge.new.pictures (vec_items c.args.journal.now) (vec_items c.merge.new.journal) c.args.join (g.met.K.Keeper.settled c.args.k.now) h.counted h.booked a c.together.ensures.same c.merge.ensures.unites c.merge.ensures.sheet c.merge.ensures.items in
+    let o = joined_on rs (k.reps c.together.new.k) (k.reps c.merge.new.k) ps (g.S.Tracked.seen c.merge.new.pictures) (vec_items c.args.journal.now) (vec_items c.merge.new.journal) c.args.join (g.met.K.Keeper.settled c.args.k.now) h.counted h.booked a c.together.ensures.same c.merge.ensures.unites c.merge.ensures.sheet c.merge.ensures.items in
     progress_then _ _ _ _ _ _ o.2 c.settle.ensures.progress
 
 pub returns-clause-grows : goal.returns-clause-grows
 returns-clause-grows g c w =
     let rs = g.K.Keeper.reps c.args.k.now in
-    let ps = c.args.pictures.now in
+    let ps = g.S.Tracked.seen c.args.pictures.now in
     let P = sheet ps in
     let J = vec_items c.args.journal.now in
     let J' = vec_items c.merge.new.journal in
@@ -60,11 +60,11 @@ returns-clause-grows g c w =
 
 pub returns-clause-joined : goal.returns-clause-joined
 returns-clause-joined g c w =
-    let ps = c.args.pictures.now in
+    let ps = g.S.Tracked.seen c.args.pictures.now in
     let j = c.args.join in
     let before = subst (λ (ts : List ℕ). Working ts ps (held (g.I.Index.leads c.args.index.now)) (vec_items c.args.journal.now)) (sym c.together.ensures.same) w in
     let mid = c.merge.ensures.working before in
     let end = c.settle.ensures.working mid in
-    let Q : List Picture = sheet c.merge.new.pictures in
+    let Q : List Picture = sheet (g.S.Tracked.seen c.merge.new.pictures) in
     grows_coarser _ _ Q Any _ _ mid.books (subst (λ (X : List Picture). Books (g.K.Keeper.reps c.settle.new.k) X (vec_items c.settle.new.journal)) c.settle.ensures.sheet end.books) (c.settle.ensures.grows mid)
-    j.left j.right (on_sheet ps c.merge.new.pictures c.merge.ensures.sheet j.left c.requires.on.0) (on_sheet ps c.merge.new.pictures c.merge.ensures.sheet j.right c.requires.on.1) c.merge.ensures.joined
+    j.left j.right (on_sheet ps (g.S.Tracked.seen c.merge.new.pictures) c.merge.ensures.sheet j.left c.requires.on.0) (on_sheet ps (g.S.Tracked.seen c.merge.new.pictures) c.merge.ensures.sheet j.right c.requires.on.1) c.merge.ensures.joined
