@@ -13,6 +13,6 @@ mod chaining;
 // a congruence just put together
 #[cfg(test)]
 mod beginning;
-// two closures of one row of pictures
+// two closures that share their pictures
 #[cfg(test)]
 mod sharing;

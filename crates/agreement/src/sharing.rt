@@ -2,8 +2,9 @@ ghost use Rattle.std.specs.Prelude.{◌≡◌, ℕ, ◌≤◌, length, vec_capac
 ghost use Rattle.keepers.specs.Meaning.{rep, Upto};
 ghost use Rattle.indexes.specs.Meaning.{held};
 ghost use Rattle.rows.specs.Row.{cells_of};
-ghost use Rattle.congruence.specs.Drawn.{beside};
-ghost use Rattle.congruence.specs.Working.{Holding};
+ghost use Rattle.theory.specs.Reasons.{Fits};
+ghost use Rattle.congruence.specs.Drawn.{beside, sheet, inputs_held, reasons, reason_of};
+ghost use Rattle.congruence.specs.Working.{Holding, Progress, Grows};
 ghost use Rattle.congruence.specs.Waiting.{Idle, Working};
 
 use congruence::restoring::restore;
@@ -14,7 +15,7 @@ use indexes::{Chained, Index, Plain, Row};
 use keepers::{Keeper, Links, Relabel, populate};
 use std::test::Fail;
 
-// Ties a join into a closure of pictures that are only lent: what `tie` promises, said of the pictures and the notes.
+// Ties a join into a closure of pictures that are only lent: all that `tie` promises, said of the pictures and the notes.
 fn tie_beside<K: Keeper, I: Index>(
     k: &mut K,
     index: &mut I,
@@ -28,7 +29,15 @@ fn tie_beside<K: Keeper, I: Index>(
     requires sized { length notes.old ≡ length pictures.now }
     requires on { Upto (length pictures.now) join.left × Upto (length pictures.now) join.right }
     ensures holding { Holding (K.reps k.new) (beside pictures.now notes.new) (held (I.leads index.new)) journal.new.items }
+    ensures progress { Progress (K.reps k.old) (K.reps k.new) (length journal.old.items) (length journal.new.items) }
+    ensures space { vec_capacity journal.new ≡ vec_capacity journal.old }
+    ensures sheet { sheet (beside pictures.now notes.new) ≡ sheet (beside pictures.now notes.old) }
+    ensures inputs { inputs_held (beside pictures.now notes.new) ≡ inputs_held (beside pictures.now notes.old) }
+    ensures sized { length notes.new ≡ length notes.old }
     ensures working { Working (K.reps k.old) (beside pictures.now notes.old) (held (I.leads index.old)) journal.old.items → Working (K.reps k.new) (beside pictures.now notes.new) (held (I.leads index.new)) journal.new.items }
+    ensures idle { Working (K.reps k.old) (beside pictures.now notes.old) (held (I.leads index.old)) journal.old.items → Idle (beside pictures.now notes.old) → Idle (beside pictures.now notes.new) }
+    ensures grows { Working (K.reps k.old) (beside pictures.now notes.old) (held (I.leads index.old)) journal.old.items → Grows (sheet (beside pictures.now notes.old)) (λ E. Fits (sheet (beside pictures.now notes.old)) E (reasons journal.old.items) (reason_of join)) journal.old.items journal.new.items }
+    ensures joined { Working (K.reps k.old) (beside pictures.now notes.old) (held (I.leads index.old)) journal.old.items → rep (K.reps k.new) join.left ≡ rep (K.reps k.new) join.right }
 {
     let mut lent = Beside { pictures, notes };
     tie(k, index, &mut lent, journal, join);
@@ -47,9 +56,9 @@ fn drawn(op: u16, inputs: &[u16]) -> Picture
     }
 }
 
-// Two sources, and the same operation on each. Two closures share this row of pictures: the first hears that the sources are one, the second does not.
+// Two sources, and the same operation on each. Two closures share these pictures: the first hears that the sources are one, the second does not.
 #[test]
-fn one_row_of_pictures(rt: HostRuntime) -> Result<(), Fail> {
+fn shared_pictures(rt: HostRuntime) -> Result<(), Fail> {
     let heap = rt.alloc();
     let pictures = [drawn(1, &[]), drawn(2, &[]), drawn(3, &[1]), drawn(3, &[2])];
     let blank = Note {

@@ -1,9 +1,11 @@
 -- Pictures with notes that stand beside them. Assumes nothing.
-use Rattle.std.proofs.Common.{◌≡◌, ℕ, zero, suc, ◌<◌, ◌≤◌, List, [], ◌∷◌, length, get_or, set, min, refl, ap, arith}
+use Rattle.std.proofs.Common.{◌≡◌, ℕ, zero, suc, ◌<◌, ◌≤◌, List, [], ◌∷◌, length, get_or, set, min, refl, ap, arith, Bool, map, drop}
 use native.Mathlib.Numerals.{unary_clauses}
+use Rattle.theory.specs.Sheet.{Picture}
+use Rattle.rows.specs.Row.{cells_of}
 use Rattle.congruence.specs.declared.picture.Picture.{Picture as Held}
 use Rattle.congruence.specs.declared.beside.Note.{Note}
-use Rattle.congruence.specs.Drawn.{beside, held_at}
+use Rattle.congruence.specs.Drawn.{beside, held_at, sheet, drawn}
 
 -- the picture with this note
 abbrev pub with : Held → Note → Held
@@ -42,3 +44,28 @@ pub beside_sized : (ps : List Held) (ns : List Note) → length ns ≡ length ps
 beside_sized [] ns e = refl
 beside_sized (x ∷ ps) [] e = let z : ◌≡◌ {A = ℕ} 0 (suc (length ps)) = e in absurd (omega (arith, z))
 beside_sized (x ∷ ps) (y ∷ ns) e = ap suc (beside_sized ps ns (cc))
+
+-- as many notes as pictures: the sheet is that of the pictures, and what is noted is what the notes say
+pub beside_sheet : (ps : List Held) (ns : List Note) → length ns ≡ length ps → sheet (beside ps ns) ≡ sheet ps
+beside_sheet [] ns e = refl
+beside_sheet (x ∷ ps) [] e = let z : ◌≡◌ {A = ℕ} 0 (suc (length ps)) = e in absurd (omega (arith, z))
+beside_sheet (x ∷ ps) (y ∷ ns) e = ap (λ (P : List Picture). drawn x ∷ P) (beside_sheet ps ns (cc))
+
+pub beside_rows : (ps : List Held) (ns : List Note) → length ns ≡ length ps → map (λ (h : Held). cells_of h.row) (beside ps ns) ≡ map (λ (n : Note). cells_of n.row) ns
+beside_rows [] [] e = refl
+beside_rows [] (y ∷ ns) e = let z : ◌≡◌ {A = ℕ} (suc (length ns)) 0 = e in absurd (omega (arith, z))
+beside_rows (x ∷ ps) [] e = let z : ◌≡◌ {A = ℕ} 0 (suc (length ps)) = e in absurd (omega (arith, z))
+beside_rows (x ∷ ps) (y ∷ ns) e = ap (λ (R : List (List ℕ)). cells_of y.row ∷ R) (beside_rows ps ns (cc))
+
+pub beside_waits : (ps : List Held) (ns : List Note) → length ns ≡ length ps → map (λ (h : Held). h.waits) (beside ps ns) ≡ map (λ (n : Note). n.waits) ns
+beside_waits [] [] e = refl
+beside_waits [] (y ∷ ns) e = let z : ◌≡◌ {A = ℕ} (suc (length ns)) 0 = e in absurd (omega (arith, z))
+beside_waits (x ∷ ps) [] e = let z : ◌≡◌ {A = ℕ} 0 (suc (length ps)) = e in absurd (omega (arith, z))
+beside_waits (x ∷ ps) (y ∷ ns) e = ap (λ (R : List Bool). y.waits ∷ R) (beside_waits ps ns (cc))
+
+-- the notes behind the last picture stay
+pub behind_set : (k i : ℕ) (ns : List Note) (n : Note) → i < k → drop k (set ns i n) ≡ drop k ns
+behind_set zero i ns n h = absurd (omega (arith, h))
+behind_set (suc k) i [] n h = refl
+behind_set (suc k) zero (y ∷ ns) n h = refl
+behind_set (suc k) (suc j) (y ∷ ns) n h = behind_set k j ns n (omega (arith, h))

@@ -39,7 +39,7 @@ noting p w = record { inputs = p.inputs; row = w; op = p.op; waits = true }
 abbrev pub resting : Held → Held
 resting p = record { inputs = p.inputs; row = p.row; op = p.op; waits = false }
 
--- pictures, each with the note that stands beside it in place of its own
+-- pictures, each with the note that stands beside it in place of its own; as many as have one
 abbrev pub beside : List Held → List Note → List Held
 beside [] ns = []
 beside (p ∷ ps) [] = []

@@ -1,5 +1,5 @@
--- The index while classes are joined. A picture waits while its signature has changed and is not entered again. ps are the pictures as they are held, m
--- is the map of the index. Assumes nothing.
+-- The index while classes are joined. A picture waits while its signature has changed and is not entered again. ps are the pictures with what is noted
+-- of each, m is the map of the index. Assumes nothing.
 use Rattle.std.specs.Prelude.{◌≡◌, ℕ, Bool, true, false, ◌||◌, ◌≢◌, ◌⊎◌, List, [], ◌∷◌, map, Some, None, Option, ◌==◌, slice_index_or}
 use Rattle.keepers.specs.Meaning.{rep, Within}
 use Rattle.rows.specs.Row.{cells_of}

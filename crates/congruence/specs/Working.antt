@@ -1,5 +1,5 @@
--- What holds while classes are joined: rs is the keeper's list of representatives, P the pictures, ps the pictures as they are held, m the index's map, J
--- the journal. Assumes nothing.
+-- What holds while classes are joined: rs is the keeper's list of representatives, P the pictures, ps the pictures with what is noted of each, m the index's map,
+-- J the journal. Assumes nothing.
 use Rattle.std.specs.Prelude.{◌≡◌, ℕ, ◌+◌, ◌-◌, ◌<◌, ◌≤◌, ◌≢◌, ◌↔◌, List, [], ◌++◌, length, take, Some, All, Option, slice_index_or}
 use Rattle.keepers.specs.Meaning.{Upto, Within, rep, class_count}
 use Rattle.rows.specs.Row.{cells_of}

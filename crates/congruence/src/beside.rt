@@ -1,3 +1,4 @@
+ghost use Rattle.std.specs.Prelude.{length, drop};
 ghost use Rattle.congruence.specs.Drawn.{beside};
 
 use crate::picture::Picture;
@@ -11,8 +12,8 @@ pub struct Note {
     pub waits: bool,
 }
 
-// Pictures that are only lent, and notes of one's own beside them: so several closures share one row of pictures. What the lent pictures note themselves is not
-// looked at.
+// Pictures that are only lent, and notes of one's own beside them: so several closures share one list of pictures. What the lent pictures note themselves is not
+// looked at, nor are pictures without a note, or notes without a picture.
 #[derive(Drop)]
 pub struct Beside<'a> {
     pub pictures: &'a [Picture],
@@ -22,7 +23,7 @@ pub struct Beside<'a> {
 impl<'a> Tracked for Beside<'a> {
     ghost seen = { λ b. beside b.pictures.now b.notes.now };
 
-    ghost frame = { λ b. (b.pictures.now, b.notes.ghost_name) };
+    ghost frame = { λ b. (b.pictures.now, drop (length b.pictures.now) b.notes.now, b.notes.ghost_name) };
 
     fn count(&self) -> usize {
         self.pictures.len().min(self.notes.len())

@@ -17,7 +17,7 @@ pub struct Picture {
 impl Tracked for Vec<Picture> {
     ghost seen = { λ v. v.items };
 
-    ghost frame = { λ v. ([], vec_capacity v) };
+    ghost frame = { λ v. ([], [], vec_capacity v) };
 
     fn count(&self) -> usize {
         self.len()

@@ -1,5 +1,6 @@
 ghost use Rattle.std.specs.Prelude.{◌≡◌, ℕ, ◌<◌, List, [], length, slice_set};
 ghost use Rattle.congruence.specs.declared.picture.Picture.{Picture};
+ghost use Rattle.congruence.specs.declared.beside.Note.{Note};
 ghost use Rattle.congruence.specs.Drawn.{held_at, noting, resting};
 
 use indexes::Row;
@@ -10,8 +11,9 @@ pub trait Tracked {
     // the pictures, each with what is noted of it
     ghost seen: { Self → List Picture };
 
-    // what stays whatever is noted: where pictures are only lent, these, and the borrow of the notes; where they are owned, the room for them
-    ghost frame: { Self → List Picture × ℕ };
+    // what stays whatever is noted: where pictures are only lent, these, the notes behind the last of them, and the borrow of the notes; where they are owned,
+    // the room for them
+    ghost frame: { Self → List Picture × List Note × ℕ };
 
     // How many pictures there are.
     fn count(&self) -> usize
