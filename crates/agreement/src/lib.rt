@@ -1,4 +1,5 @@
-// Tests that every keeper and every index answers one table of calls alike, and that a congruence is put together from any of them.
+// Tests that every keeper and every index answers one table of calls alike, that a congruence is put together from any of them, and that closures can share
+// their pictures.
 #![tactic(auto)]
 
 // the table of calls on keepers

@@ -12,8 +12,8 @@ pub struct Note {
     pub waits: bool,
 }
 
-// Pictures that are only lent, and notes of one's own beside them: so several closures share one list of pictures. What the lent pictures note themselves is not
-// looked at, nor are pictures without a note, or notes without a picture.
+// Pictures that are only lent, and notes of one's own beside them: so several closures share one list of pictures. What the lent pictures note themselves is
+// not looked at, nor are pictures without a note, or notes without a picture.
 #[derive(Drop)]
 pub struct Beside<'a> {
     pub pictures: &'a [Picture],

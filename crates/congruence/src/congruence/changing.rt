@@ -16,8 +16,8 @@ use crate::settling::{settle, tie};
 use indexes::Index;
 use keepers::Keeper;
 
-// Each of these calls is a function over what a congruence holds, so that whoever has a keeper, an index, pictures and a journal only lent can call that, be it
-// pictures that hold their notes or notes beside pictures.
+// Each of these calls is a function over what a congruence holds, so that whoever has a keeper, an index, pictures and a journal only lent can call that:
+// the pictures hold their notes, or have them beside them.
 impl<K: Keeper, I: Index> Congruence<K, I> {
     // Makes the two classes of a join one, writes it into the journal, and lets the pictures wait whose signature changes.
     pub fn merge(&mut self, join: Join)
